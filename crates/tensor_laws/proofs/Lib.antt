@@ -1,0 +1,13 @@
+pub mod Action
+pub mod Determinant
+pub mod ActionLaws
+pub mod WordTurns
+pub mod ThreeFold
+pub mod Products
+pub mod Unique
+pub mod IndexOrder
+pub mod Associativity
+pub mod Agreeing
+pub mod WordRows
+pub mod ComponentNumbers
+pub mod BlockOrder
