@@ -1,0 +1,53 @@
+-- The suffixes as alternatives, row by row.
+use Rattle.std.proofs.Common.{◌≡◌, ◌≢◌, ℕ, ◌+◌, ◌<◌, ◌≤◌, Bool, true, false, IsTrue, List, [], ◌∷◌, ◌++◌, length, get_or, take, refl, sym, ap, ◌∙◌, arith, lit<}
+use Rattle.std.proofs.lemmas.List.{take_all}
+use Rattle.text_defs.specs.Languages.{Begins, IsFaultPlace, IsFaulty}
+use Rattle.fault_places.proofs.Places.{same_faulty}
+use Rattle.fault_places.proofs.Furthest.{Furthest, Furthest-skip, Furthest-stay, Furthest-go, Furthest-all, single_faulty}
+use Rattle.text_defs.specs.GroupTexts.{suffix_at, no_suffix, IsSuffix}
+use Rattle.group_symbol.specs.Parts.{IsSuffixText}
+
+abbrev pub Row : ℕ → ℕ → List ℕ → Type 0
+Row parent k z = IsTrue ((suffix_at k).parents parent) × (z ≡ (suffix_at k).text)
+
+abbrev pub Rows : ℕ → List ℕ → ℕ → ℕ → Type 0
+Rows parent word row place = Furthest (IsSuffixText parent) (Row parent) row word place
+
+row_text : (parent k : ℕ) → k < 7 → (z : List ℕ) → Row parent k z → IsSuffixText parent z
+row_text parent k lt z h = ((suffix_at k).setting, record { place = k; listed = lt; taken = h.0; setting_is = refl; text_is = h.1 })
+
+pub no_suffix_is_one : (parent : ℕ) → IsSuffixText parent []
+unfolding suffix_at
+no_suffix_is_one parent = (no_suffix.setting, record { place = 0; listed = lit< tt; taken = refl; setting_is = refl; text_is = refl })
+
+pub Rows-start : (parent : ℕ) (word : List ℕ) → Rows parent word 0 0
+Rows-start parent word = record { within = omega arith; begins = ([], no_suffix_is_one parent); none = λ k lt. absurd (omega arith); longest = λ k lt. absurd (omega arith) }
+
+pub Rows-end : (parent : ℕ) (word : List ℕ) (place : ℕ) → Rows parent word 7 place → IsFaulty (IsSuffixText parent) word place
+Rows-end parent word place h = Furthest-all (IsSuffixText parent) (Row parent) 7 word place h (λ z s. (s.1.place, s.1.listed, (s.1.taken, s.1.text_is)))
+
+module _ (parent : ℕ) (word : List ℕ) (row place : ℕ) (h : Rows parent word row place) where
+  pub Rows-skip : (suffix_at row).parents parent ≡ false → Rows parent word (row + 1) place
+  Rows-skip no_row = Furthest-skip (IsSuffixText parent) (Row parent) row word place h (λ z r. not_taken r.0)
+    where
+      not_taken : IsTrue ((suffix_at row).parents parent) → ⊥
+      not_taken t = let clash : false ≡ true = sym no_row ∙ t in cc
+
+  module _ (taken : (suffix_at row).parents parent ≡ true) (text : List ℕ) (is : text ≡ (suffix_at row).text) (n : ℕ) (in_text : n ≤ length text) (in_word : n ≤ length word) (same : take n text ≡ take n word) (differ : n < length text → n < length word → get_or text n 0 ≢ get_or word n 0) where
+    is_taken : IsTrue ((suffix_at row).parents parent)
+    is_taken = taken
+
+    row_faulty : (n ≡ length text → n ≡ length word → ⊥) → IsFaulty (Row parent row) word n
+    row_faulty part = same_faulty (λ z. z ≡ text) (Row parent row) (λ z e. (is_taken, e ∙ is)) (λ z r. r.1 ∙ sym is) word n (single_faulty text word n in_text in_word same differ part)
+
+    pub Rows-stay : (n ≡ length text → n ≡ length word → ⊥) → n ≤ place → Rows parent word (row + 1) place
+    Rows-stay part le = Furthest-stay (IsSuffixText parent) (Row parent) row word place h n (row_faulty part) le
+
+    pub Rows-go : row < 7 → (n ≡ length text → n ≡ length word → ⊥) → place ≤ n → Rows parent word (row + 1) n
+    Rows-go lt part le = Furthest-go (IsSuffixText parent) (Row parent) row word place h n (row_text parent row lt) (row_faulty part) le
+
+    pub Rows-found : row < 7 → n ≡ length text → n ≡ length word → IsSuffix parent word ((suffix_at row).setting)
+    Rows-found lt all_text all_word = record { place = row; listed = lt; taken = is_taken; setting_is = refl; text_is = sym (whole word n all_word) ∙ sym same ∙ whole text n all_text ∙ is }
+      where
+        whole : (l : List ℕ) (k : ℕ) → k ≡ length l → take k l ≡ l
+        whole l k e = take_all k l (omega arith)

@@ -1,0 +1,14 @@
+//! Group symbols: Hermann-Mauguin symbols with primes, read from text, written, and taken apart into the
+//! operations that generate their groups.
+#![tactic(auto)]
+
+mod parents;
+mod read;
+mod suffixes;
+mod tree;
+
+pub use parents::Parent;
+pub use read::read_group;
+pub use tensor_defs::{Direction, OpKind, Setting};
+pub use text_defs::Fault;
+pub use tree::SymbolTree;
