@@ -5,3 +5,4 @@ pub mod SuffixRows
 pub mod Endings
 pub mod ParentTexts
 pub mod Alternatives
+pub mod ParentRows

@@ -68,6 +68,9 @@ few_operators n = leb-true _ _ (both_say (nat_le (operators_in 0 (parent_text n)
 pub no_primes : (n : ℕ) → NoPrimes (parent_text n)
 no_primes n = sound_says (parent_text n) (both_say (nat_le (operators_in 0 (parent_text n)) 4) (sound (parent_text n)) (row_holds n)).1
 
+pub few_count : (n : ℕ) → operator_count n ≤ 4
+few_count n = omega (arith, same_count n, few_operators n)
+
 -- the operators of the table are as many as the signs of the text end
 counted : (n p : ℕ) → p < 2 ^ operators_in 0 (parent_text n) → p < 2 ^ operator_count n
 counted n p h = subst (λ (k : ℕ). p < 2 ^ k) (sym (same_count n)) h

@@ -1,3 +1,4 @@
 pub mod Readings
+pub mod Operators
 pub mod Parts
 pub mod Walks

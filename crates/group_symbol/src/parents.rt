@@ -1,8 +1,11 @@
 //! The parents: the 42 symbols without primes.
 ghost use Rattle.std.specs.Prelude.{◌≡◌, ◌≤◌, SomeIff};
-ghost use Rattle.tensor_defs.specs.Symbols.{parent_text, takes_setting, is_monoclinic, is_orthorhombic, is_turned_trigonal};
+ghost use Rattle.group_symbol.specs.Operators.{operators_of};
+ghost use Rattle.tensor_defs.specs.Symbols.{parent_text, parent_operators, operator_count, takes_setting, is_monoclinic, is_orthorhombic, is_turned_trigonal};
 
 use std::marker::Model;
+use tensor_defs::Direction::{self, X, XYZ, XmY, Y, Z};
+use tensor_defs::OpKind::{self, Bar1, Bar3, Bar4, Bar6, Four, Mirror, Six, Three, Two};
 use tensor_defs::Setting;
 
 /// A parent, by its number from 1 to 42.
@@ -44,57 +47,31 @@ impl Parent {
         self.number
     }
 
+    /// How many operators it has: none at 1, at most four.
+    pub fn operators(&self) -> usize
+        ensures count { result ≡ operator_count self.now }
+        ensures few { result ≤ 4 }
+    {
+        self.row().operators.len()
+    }
+
     /// The text without primes.
-    #[tactic(auto, unfolding(tensor_defs::specs::Symbols::parent_text))]
-    pub fn text(&self) -> &'static [u8]
+    pub(crate) fn text(&self) -> &'static [u8]
         ensures value { result.now ≡ parent_text self.now }
         ensures first { 1 ≤ self.now }
         ensures last { self.now ≤ 42 }
     {
-        match self.number {
-            1 => b"1",
-            2 => b"-1",
-            3 => b"2",
-            4 => b"m",
-            5 => b"2/m",
-            6 => b"222",
-            7 => b"mm2",
-            8 => b"m2m",
-            9 => b"2mm",
-            10 => b"mmm",
-            11 => b"4",
-            12 => b"-4",
-            13 => b"4/m",
-            14 => b"422",
-            15 => b"4mm",
-            16 => b"-42m",
-            17 => b"-4m2",
-            18 => b"4/mmm",
-            19 => b"3",
-            20 => b"-3",
-            21 => b"32",
-            22 => b"321",
-            23 => b"312",
-            24 => b"3m",
-            25 => b"3m1",
-            26 => b"31m",
-            27 => b"-3m",
-            28 => b"-3m1",
-            29 => b"-31m",
-            30 => b"6",
-            31 => b"-6",
-            32 => b"6/m",
-            33 => b"622",
-            34 => b"6mm",
-            35 => b"-6m2",
-            36 => b"-62m",
-            37 => b"6/mmm",
-            38 => b"23",
-            39 => b"m-3",
-            40 => b"432",
-            41 => b"-43m",
-            _ => b"m-3m",
-        }
+        self.row().text
+    }
+
+    /// Its row of the table.
+    fn row(&self) -> &'static Row
+        ensures text { result.now.text.now ≡ parent_text self.now }
+        ensures operators { operators_of result.now.operators.now ≡ parent_operators self.now }
+        ensures first { 1 ≤ self.now }
+        ensures last { self.now ≤ 42 }
+    {
+        &PARENTS[self.number as usize - 1]
     }
 
     /// Whether it takes the setting.
@@ -131,3 +108,56 @@ impl Parent {
         n == 19 || n == 20 || n == 21 || n == 24 || n == 27
     }
 }
+
+/// A parent's text, and its operators from left to right.
+struct Row {
+    text: &'static [u8],
+    operators: &'static [(OpKind, Direction)],
+}
+
+/// The parents, the first of number 1.
+static PARENTS: [Row; 42] = [
+    Row { text: b"1", operators: &[] },
+    Row { text: b"-1", operators: &[(Bar1, Z)] },
+    Row { text: b"2", operators: &[(Two, Y)] },
+    Row { text: b"m", operators: &[(Mirror, Y)] },
+    Row { text: b"2/m", operators: &[(Two, Y), (Mirror, Y)] },
+    Row { text: b"222", operators: &[(Two, X), (Two, Y), (Two, Z)] },
+    Row { text: b"mm2", operators: &[(Mirror, X), (Mirror, Y), (Two, Z)] },
+    Row { text: b"m2m", operators: &[(Mirror, X), (Two, Y), (Mirror, Z)] },
+    Row { text: b"2mm", operators: &[(Two, X), (Mirror, Y), (Mirror, Z)] },
+    Row { text: b"mmm", operators: &[(Mirror, X), (Mirror, Y), (Mirror, Z)] },
+    Row { text: b"4", operators: &[(Four, Z)] },
+    Row { text: b"-4", operators: &[(Bar4, Z)] },
+    Row { text: b"4/m", operators: &[(Four, Z), (Mirror, Z)] },
+    Row { text: b"422", operators: &[(Four, Z), (Two, X), (Two, XmY)] },
+    Row { text: b"4mm", operators: &[(Four, Z), (Mirror, X), (Mirror, XmY)] },
+    Row { text: b"-42m", operators: &[(Bar4, Z), (Two, X), (Mirror, XmY)] },
+    Row { text: b"-4m2", operators: &[(Bar4, Z), (Mirror, X), (Two, XmY)] },
+    Row { text: b"4/mmm", operators: &[(Four, Z), (Mirror, Z), (Mirror, X), (Mirror, XmY)] },
+    Row { text: b"3", operators: &[(Three, Z)] },
+    Row { text: b"-3", operators: &[(Bar3, Z)] },
+    Row { text: b"32", operators: &[(Three, Z), (Two, X)] },
+    Row { text: b"321", operators: &[(Three, Z), (Two, X)] },
+    Row { text: b"312", operators: &[(Three, Z), (Two, Y)] },
+    Row { text: b"3m", operators: &[(Three, Z), (Mirror, X)] },
+    Row { text: b"3m1", operators: &[(Three, Z), (Mirror, X)] },
+    Row { text: b"31m", operators: &[(Three, Z), (Mirror, Y)] },
+    Row { text: b"-3m", operators: &[(Bar3, Z), (Mirror, X)] },
+    Row { text: b"-3m1", operators: &[(Bar3, Z), (Mirror, X)] },
+    Row { text: b"-31m", operators: &[(Bar3, Z), (Mirror, Y)] },
+    Row { text: b"6", operators: &[(Six, Z)] },
+    Row { text: b"-6", operators: &[(Bar6, Z)] },
+    Row { text: b"6/m", operators: &[(Six, Z), (Mirror, Z)] },
+    Row { text: b"622", operators: &[(Six, Z), (Two, X), (Two, Y)] },
+    Row { text: b"6mm", operators: &[(Six, Z), (Mirror, X), (Mirror, Y)] },
+    Row { text: b"-6m2", operators: &[(Bar6, Z), (Mirror, X), (Two, Y)] },
+    Row { text: b"-62m", operators: &[(Bar6, Z), (Two, X), (Mirror, Y)] },
+    Row { text: b"6/mmm", operators: &[(Six, Z), (Mirror, Z), (Mirror, X), (Mirror, Y)] },
+    Row { text: b"23", operators: &[(Two, Z), (Three, XYZ)] },
+    Row { text: b"m-3", operators: &[(Mirror, Z), (Bar3, XYZ)] },
+    Row { text: b"432", operators: &[(Four, Z), (Three, XYZ), (Two, XmY)] },
+    Row { text: b"-43m", operators: &[(Bar4, Z), (Three, XYZ), (Mirror, XmY)] },
+    Row { text: b"m-3m", operators: &[(Mirror, Z), (Bar3, XYZ), (Mirror, XmY)] },
+];
+

@@ -31,6 +31,20 @@ impl Model for SymbolTree {
 }
 
 impl SymbolTree {
+    /// The symbol of these parts. None where the parent doesn't take the setting, a bit is set past the
+    /// parent's operators, or the symbol is grey and has primes.
+    pub fn new(parent: Parent, primes: u8, grey: bool, setting: Setting) -> Option<SymbolTree>
+        ensures { let t = symbol_of parent primes grey setting in SomeIff result (IsGroupSymbol t) t }
+    {
+        if primes >= 1 << parent.operators() || !parent.takes(setting) {
+            return None;
+        }
+        if grey && primes != 0 {
+            return None;
+        }
+        Some(SymbolTree { parent, primes, grey, setting })
+    }
+
     /// The grey symbol of the parent 1.
     pub(crate) fn grey_one() -> SymbolTree
         ensures { result ≡ grey_one }
