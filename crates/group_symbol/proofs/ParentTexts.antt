@@ -68,6 +68,14 @@ few_operators n = leb-true _ _ (both_say (nat_le (operators_in 0 (parent_text n)
 pub no_primes : (n : ℕ) → NoPrimes (parent_text n)
 no_primes n = sound_says (parent_text n) (both_say (nat_le (operators_in 0 (parent_text n)) 4) (sound (parent_text n)) (row_holds n)).1
 
+-- no text has more than five signs
+all_short : list_all (λ t. nat_le (length t) 5) parent_texts ≡ true
+all_short = refl
+
+pub short_text : (n : ℕ) → length (parent_text n) ≤ 5
+unfolding parent_text
+short_text n = leb-true _ _ (all_rows (λ t. nat_le (length t) 5) refl parent_texts all_short (n - 1))
+
 pub few_count : (n : ℕ) → operator_count n ≤ 4
 few_count n = omega (arith, same_count n, few_operators n)
 

@@ -4,11 +4,14 @@
 
 mod parents;
 mod read;
+mod short_text;
 mod suffixes;
 mod tree;
+mod write;
 
 pub use parents::Parent;
 pub use read::read_group;
 pub use tensor_defs::{Direction, OpKind, Setting};
 pub use text_defs::Fault;
 pub use tree::SymbolTree;
+pub use write::{NoMemory, write_group};

@@ -1,7 +1,8 @@
 //! The parents: the 42 symbols without primes.
-ghost use Rattle.std.specs.Prelude.{◌≡◌, ◌≤◌, SomeIff};
+ghost use Rattle.std.specs.Prelude.{◌≡◌, ◌≤◌, SomeIff, length};
 ghost use Rattle.group_symbol.specs.Operators.{operators_of};
 ghost use Rattle.tensor_defs.specs.Symbols.{parent_text, parent_operators, operator_count, takes_setting, is_monoclinic, is_orthorhombic, is_turned_trigonal};
+ghost use Rattle.text_defs.specs.GroupTexts.{ends_operator};
 
 use std::marker::Model;
 use tensor_defs::Direction::{self, X, XYZ, XmY, Y, Z};
@@ -58,10 +59,19 @@ impl Parent {
     /// The text without primes.
     pub(crate) fn text(&self) -> &'static [u8]
         ensures value { result.now ≡ parent_text self.now }
+        ensures short { length result.now ≤ 5 }
         ensures first { 1 ≤ self.now }
         ensures last { self.now ≤ 42 }
     {
         self.row().text
+    }
+
+    /// Its operators from left to right, with their directions in the default setting.
+    pub(crate) fn operator_list(&self) -> &'static [(OpKind, Direction)]
+        ensures value { operators_of result.now ≡ parent_operators self.now }
+        ensures few { length result.now ≤ 4 }
+    {
+        self.row().operators
     }
 
     /// Its row of the table.
@@ -106,6 +116,17 @@ impl Parent {
     {
         let n = self.number;
         n == 19 || n == 20 || n == 21 || n == 24 || n == 27
+    }
+}
+
+/// Whether a prime may follow the sign, in a parent's text where `previous` stands before it.
+pub(crate) fn ends_operator(previous: u8, sign: u8) -> bool
+    ensures { result ≡ ends_operator previous sign }
+{
+    match sign {
+        b'2' | b'3' | b'4' | b'6' | b'm' => true,
+        b'1' => previous == b'-',
+        _ => false,
     }
 }
 

@@ -1,11 +1,11 @@
 //! Reading a symbol from a text. Each parent is tried in turn; the place of a fault is the furthest one.
 ghost use Rattle.std.specs.Prelude.{◌≡◌, ◌≢◌, take, slice_index, ◌≤◌, ◌<◌, IfOk, length};
-ghost use Rattle.text_defs.specs.GroupTexts.{ends_operator, operators_in};
+ghost use Rattle.text_defs.specs.GroupTexts.{operators_in};
 ghost use Rattle.group_symbol.specs.Parts.{ReadsSuffix, ReadsEnding, ReadsFull};
 ghost use Rattle.group_symbol.specs.Readings.{ReadsGroup};
 ghost use Rattle.group_symbol.specs.Walks.{walk, Walked};
 
-use crate::parents::Parent;
+use crate::parents::{Parent, ends_operator};
 use crate::suffixes::{suffix_at, takes_suffix};
 use crate::tree::SymbolTree;
 use tensor_defs::Setting;
@@ -23,17 +23,6 @@ fn common_front(a: &[u8], b: &[u8]) -> usize
         at += 1;
     }
     at
-}
-
-/// Whether a prime may follow the sign, in a parent's text where `previous` stands before it.
-pub fn ends_operator(previous: u8, sign: u8) -> bool
-    ensures { result ≡ ends_operator previous sign }
-{
-    match sign {
-        b'2' | b'3' | b'4' | b'6' | b'm' => true,
-        b'1' => previous == b'-',
-        _ => false,
-    }
 }
 
 /// The primes of a text's operators and how many bytes they and the signs take, at the front of a word.

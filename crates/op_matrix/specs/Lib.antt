@@ -1,0 +1,5 @@
+pub mod Tests
+pub mod Table
+pub mod View
+pub mod Places
+pub mod Laws
