@@ -6,3 +6,5 @@ pub mod Endings
 pub mod ParentTexts
 pub mod Alternatives
 pub mod ParentRows
+pub mod Written
+pub mod Turned

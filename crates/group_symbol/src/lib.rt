@@ -2,6 +2,7 @@
 //! operations that generate their groups.
 #![tactic(auto)]
 
+mod generators;
 mod parents;
 mod read;
 mod short_text;
@@ -9,6 +10,7 @@ mod suffixes;
 mod tree;
 mod write;
 
+pub use generators::{Generators, generators_of};
 pub use parents::Parent;
 pub use read::read_group;
 pub use tensor_defs::{Direction, OpKind, Setting};
