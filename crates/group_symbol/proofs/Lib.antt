@@ -8,3 +8,4 @@ pub mod Alternatives
 pub mod ParentRows
 pub mod Written
 pub mod Turned
+pub mod WrittenTexts

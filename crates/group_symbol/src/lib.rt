@@ -3,6 +3,7 @@
 #![tactic(auto)]
 
 mod generators;
+mod laws;
 mod parents;
 mod read;
 mod short_text;
@@ -11,9 +12,14 @@ mod tree;
 mod write;
 
 pub use generators::{Generators, generators_of};
+pub use laws::{written_text_reads_back, written_text_spells};
+pub use op_matrix::Op;
 pub use parents::Parent;
 pub use read::read_group;
 pub use tensor_defs::{Direction, OpKind, Setting};
 pub use text_defs::Fault;
 pub use tree::SymbolTree;
 pub use write::{NoMemory, write_group};
+
+#[cfg(test)]
+mod tests;

@@ -1,0 +1,99 @@
+use super::*;
+use std::test::Fail;
+
+/// The parent that a word is read with, or 100 and the place where it goes wrong.
+fn reading(word: &[u8]) -> usize {
+    match read_group(word) {
+        Ok(tree) => tree.parent().number() as usize,
+        Err(fault) => 100 + fault.place.min(100),
+    }
+}
+
+#[test]
+fn words_are_read(rt: HostRuntime) -> Result<(), Fail> {
+    let words: [(&[u8], usize); 29] = [
+        (b"3m1'", 24),
+        (b"3m11'", 25),
+        (b"1'", 1),
+        (b"11'", 1),
+        (b"321'", 21),
+        (b"32", 21),
+        (b"321", 22),
+        (b"3211'", 22),
+        (b"m'-3'", 39),
+        (b"m'-3'm'", 42),
+        (b"3'", 19),
+        (b"3'1m'", 26),
+        (b"4'/m'm'm'", 18),
+        (b"2@y", 3),
+        (b"21'@y", 3),
+        (b"2/m1'@xy", 5),
+        (b"m2m@d", 8),
+        (b"-3'm@p", 27),
+        (b"2'1'", 102),
+        (b"4/mm", 104),
+        (b"2@xyz", 104),
+        (b"1'x", 102),
+        (b"1'@y", 102),
+        (b"", 100),
+        (b"m-3m@d", 104),
+        (b"3'm1'", 104),
+        (b"21", 102),
+        (b"2@d", 102),
+        (b"x", 100),
+    ];
+    for (word, wanted) in words {
+        assert_eq!(rt; reading(word), wanted);
+    }
+    Ok(())
+}
+
+/// The text that is written for what a word spells.
+fn rewritten(word: &[u8], out: &mut Vec<u8>) -> Result<(), NoMemory> {
+    if let Ok(tree) = read_group(word) {
+        write_group(&tree, out)?;
+    }
+    Ok(())
+}
+
+#[test]
+fn texts_are_written(rt: HostRuntime) -> Result<(), Fail> {
+    let words: [(&[u8], &[u8]); 8] = [
+        (b"1'", b"11'"),
+        (b"2@y", b"2"),
+        (b"21'@y", b"21'"),
+        (b"3m1'", b"3m1'"),
+        (b"4'/m'm'm'", b"4'/m'm'm'"),
+        (b"2/m1'@xy", b"2/m1'@xy"),
+        (b"m'm'2@d", b"m'm'2@d"),
+        (b"-3'm@p", b"-3'm@p"),
+    ];
+    for (word, text) in words {
+        let mut out = Vec::new(rt.alloc());
+        rewritten(word, &mut out)?;
+        assert_eq!(rt; out.as_slice(), text);
+    }
+    Ok(())
+}
+
+#[test]
+fn symbols_are_made(rt: HostRuntime) -> Result<(), Fail> {
+    let parent = Parent::from_number(27).ok_or("-3m")?;
+    assert_eq!(rt; parent.operators(), 2);
+    assert!(rt; SymbolTree::new(parent, 4, false, Setting::P).is_none());
+    assert!(rt; SymbolTree::new(parent, 1, true, Setting::P).is_none());
+    assert!(rt; SymbolTree::new(parent, 1, false, Setting::D).is_none());
+    assert!(rt; Parent::from_number(0).is_none());
+    assert!(rt; Parent::from_number(43).is_none());
+    let tree = SymbolTree::new(parent, 2, false, Setting::P).ok_or("-3m'@p")?;
+    assert_eq!(rt; tree.primes(), 2);
+    assert_eq!(rt; tree.is_grey(), false);
+    assert_eq!(rt; tree.setting(), Setting::P);
+    let generators = generators_of(&tree);
+    assert_eq!(rt; generators.len(), 2);
+    assert_eq!(rt; generators.at(0).primed(), false);
+    assert_eq!(rt; generators.at(0).det(), -1);
+    assert_eq!(rt; generators.at(1).primed(), true);
+    assert_eq!(rt; generators.is_empty(), false);
+    Ok(())
+}
