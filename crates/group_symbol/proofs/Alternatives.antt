@@ -1,12 +1,12 @@
 -- The texts of the parents' symbols, and 1', as alternatives.
-use Rattle.std.proofs.Common.{◌≡◌, ◌≢◌, ◌⊎◌, ℕ, zero, suc, ◌+◌, ◌<◌, ◌≤◌, Bool, true, false, List, [], ◌∷◌, ◌++◌, length, get_or, take, refl, sym, ap, ◌∙◌, arith, inl, inr}
-use Rattle.std.proofs.lemmas.List.{take_all}
+use Rattle.std.proofs.Common.{◌≡◌, ◌≢◌, ◌⊎◌, ℕ, ◌+◌, ◌<◌, ◌≤◌, List, length, get_or, take, max, refl, arith, inl, inr}
+use Rattle.std.proofs.lemmas.Bool.{cases_lt}
 use Rattle.std.specs.Prelude.{codes}
-use Rattle.text_defs.specs.Languages.{Begins, IsFaultPlace, IsFaulty}
+use Rattle.text_defs.specs.Languages.{IsFaulty}
 use Rattle.fault_places.proofs.Places.{same_faulty}
 use Rattle.fault_places.proofs.Furthest.{Furthest, Furthest-stay, Furthest-go, Furthest-all, single_faulty}
 use Rattle.tensor_defs.specs.Symbols.{GroupSymbol}
-use Rattle.text_defs.specs.GroupTexts.{IsFullText, SpellsGroup, IsGroupText, grey_one}
+use Rattle.text_defs.specs.GroupTexts.{SpellsGroup, IsGroupText, grey_one}
 use Rattle.group_symbol.specs.Parts.{IsFullTextOf}
 
 abbrev pub Alternative : ℕ → List ℕ → Type 0
@@ -35,11 +35,16 @@ module _ (word : List ℕ) (number place : ℕ) (first : 1 ≤ number) (h : Trie
       no_zero : number ≡ 0 → ⊥
       no_zero e = omega arith
 
-  pub tried_further : place ≤ m → Tried word (number + 1) m
-  tried_further le = Furthest-go IsGroupText Alternative number word place h m (alternative_text number) wrong le
-
-  pub tried_same : m ≤ place → Tried word (number + 1) place
-  tried_same le = Furthest-stay IsGroupText Alternative number word place h m wrong le
+  pub tried_next : Tried word (number + 1) (max place m)
+  tried_next =
+      elim (cases_lt place m) [
+        | inl less ↦
+            let is : max place m ≡ m = omega arith in
+            rw is (Furthest-go IsGroupText Alternative number word place h m (alternative_text number) wrong (omega arith))
+        | inr more ↦
+            let is : max place m ≡ place = omega arith in
+            rw is (Furthest-stay IsGroupText Alternative number word place h m wrong more)
+      ]
 
 pub all_tried : (word : List ℕ) (place : ℕ) → Tried word 43 place → IsFaulty IsGroupText word place
 all_tried word place h = Furthest-all IsGroupText Alternative 43 word place h (λ z s. covered z s.0 s.1)

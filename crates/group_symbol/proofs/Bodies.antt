@@ -1,10 +1,8 @@
 -- What the signs of a parent with their primes, and then a text that the primes allow, spell.
-use Rattle.std.proofs.Common.{◌≡◌, ◌≢◌, ◌⊎◌, ℕ, zero, suc, ◌+◌, ◌*◌, ◌/◌, ◌%◌, ◌<◌, ◌≤◌, ◌^◌, Bool, true, false, cond, eqb, List, [], ◌∷◌, ◌++◌, length, drop, Result, Ok, Err, refl, sym, ap, subst, ◌∙◌, arith, inl, inr, eq-eqb}
+use Rattle.std.proofs.Common.{◌≡◌, ◌≢◌, ◌⊎◌, ℕ, suc, ◌+◌, ◌*◌, Bool, true, false, List, [], ◌∷◌, Result, Ok, Err, refl, sym, subst, ◌∙◌, arith, inl, inr}
 use Rattle.std.proofs.lemmas.Bool.Decides.{eqb_tells}
-use Rattle.std.proofs.Math.Nat.{pow-suc}
-use Rattle.text_defs.specs.Languages.{IsFaulty}
-use Rattle.fault_places.proofs.Places.{StopsAt, same_stop, same_stop_near, stops, faulty, fault_place, Through}
-use Rattle.text_defs.specs.GroupTexts.{ends_operator, operators_in, with_primes}
+use Rattle.fault_places.proofs.Places.{StopsAt, same_stop, same_stop_near, Through}
+use Rattle.text_defs.specs.GroupTexts.{ends_operator}
 use Rattle.group_symbol.specs.Walks.{lift, after_sign, walk}
 
 -- what may stand behind the signs, by their primes

@@ -1,10 +1,10 @@
 -- The texts of signs with primes and a tail, taken apart into their primes and their tail.
-use Rattle.std.proofs.Common.{◌≡◌, ◌≢◌, ◌⊎◌, ◌==◌, ℕ, zero, suc, ◌+◌, ◌*◌, ◌/◌, ◌%◌, ◌<◌, ◌≤◌, ◌^◌, Bool, true, false, cond, eqb, List, [], ◌∷◌, ◌++◌, drop, Result, Ok, Err, refl, sym, ap, subst, ◌∙◌, arith, inl, inr, eq-eqb, lit<}
+use Rattle.std.proofs.Common.{◌≡◌, ◌==◌, ℕ, suc, ◌+◌, ◌*◌, ◌/◌, ◌%◌, ◌<◌, ◌^◌, Bool, true, false, cond, List, [], ◌∷◌, ◌++◌, drop, Result, Ok, Err, refl, sym, ap, subst, ◌∙◌, arith, inl, inr, eq-eqb, lit<}
 use Rattle.std.proofs.lemmas.Bool.Decides.{eqb_tells}
 use Rattle.std.proofs.Math.Nat.{pow-suc}
 use Rattle.text_defs.specs.GroupTexts.{ends_operator, operators_in, with_primes}
 use Rattle.group_symbol.specs.Walks.{lift, after_sign, walk}
-use Rattle.group_symbol.proofs.Bodies.{Tails, AfterSign, SignText, Body}
+use Rattle.group_symbol.proofs.Bodies.{Tails, SignText, Body}
 
 -- what with_primes writes of a sign
 abbrev pub spell : Bool → ℕ → (ℕ → List ℕ) → ℕ → List ℕ

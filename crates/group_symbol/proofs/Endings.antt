@@ -1,8 +1,8 @@
 -- What stands behind the signs: the grey suffix and the suffix of a setting.
-use Rattle.std.proofs.Common.{◌≡◌, ◌≢◌, ℕ, zero, suc, ◌+◌, ◌<◌, ◌≤◌, Bool, true, false, IsTrue, List, [], ◌∷◌, ◌++◌, length, get_or, take, drop, refl, sym, ap, subst, ◌∙◌, arith}
-use Rattle.text_defs.specs.Languages.{Begins, IsFaultPlace, IsFaulty}
-use Rattle.fault_places.proofs.Places.{StopsAt, same_stop, same_stop_near, stops, faulty, Through, Through-faulty}
-use Rattle.text_defs.specs.GroupTexts.{suffix_at, no_suffix, IsSuffix, grey_text}
+use Rattle.std.proofs.Common.{◌≡◌, ◌≢◌, ℕ, zero, suc, ◌+◌, ◌<◌, ◌≤◌, Bool, true, false, List, [], ◌∷◌, length, get_or, refl, ap, subst, ◌∙◌, arith}
+use Rattle.text_defs.specs.Languages.{IsFaulty}
+use Rattle.fault_places.proofs.Places.{StopsAt, same_stop, same_stop_near, stops, faulty, Through}
+use Rattle.text_defs.specs.GroupTexts.{suffix_at, IsSuffix}
 use Rattle.tensor_defs.specs.declared.Setting.{Setting}
 use Rattle.group_symbol.specs.Parts.{IsSuffixText, IsEnding, IsEndingText}
 use Rattle.group_symbol.proofs.SuffixRows.{no_suffix_is_one}

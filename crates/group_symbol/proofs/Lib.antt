@@ -5,7 +5,7 @@ pub mod SuffixRows
 pub mod Endings
 pub mod ParentTexts
 pub mod Alternatives
-pub mod ParentRows
+pub mod TableRows
 pub mod Written
 pub mod Turned
 pub mod WrittenTexts

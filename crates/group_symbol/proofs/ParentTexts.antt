@@ -1,19 +1,19 @@
 -- The texts of one parent's symbols.
-use Rattle.std.proofs.Common.{◌≡◌, ◌≢◌, ◌≤◌, ◌<◌, ◌==◌, ◌^◌, ◌-◌, ◌+◌, ℕ, zero, suc, Bool, true, false, cond, eqb, List, [], ◌∷◌, ◌++◌, get_or, length, drop, Result, Ok, Err, refl, sym, ap, subst, ◌∙◌, arith, lit<, nat_le, IsTrue, inl, inr, eq-eqb}
+use Rattle.std.proofs.Common.{◌≡◌, ◌≤◌, ◌<◌, ◌^◌, ◌-◌, ◌+◌, ℕ, zero, suc, Bool, true, false, cond, eqb, List, [], ◌∷◌, ◌++◌, get_or, length, drop, Result, Ok, Err, refl, sym, ap, subst, ◌∙◌, arith, nat_le, IsTrue, inl, inr, eq-eqb}
 use Rattle.std.specs.Prelude.{◌&&◌}
 use Rattle.std.specs.List.{list_all}
-use Rattle.std.proofs.lemmas.Bool.Decides.{eqb_tells, nat_tests}
+use Rattle.std.proofs.lemmas.Bool.Decides.{eqb_tells}
 use Rattle.std.proofs.lemmas.Bool.{leb-true, eqb-true}
 use Rattle.text_defs.specs.Languages.{IsFaulty}
 use Rattle.fault_places.proofs.Places.{Through, Through-faulty, faulty, same_faulty}
 use Rattle.tensor_defs.specs.declared.Setting.{Setting}
-use Rattle.tensor_defs.specs.Symbols.{GroupSymbol, parent_texts, parent_text, operator_count, takes_setting, IsGroupSymbol}
+use Rattle.tensor_defs.specs.Symbols.{parent_texts, parent_text, operator_count, takes_setting, IsGroupSymbol}
 use Rattle.text_defs.specs.GroupTexts.{operators_in, with_primes, suffix_at, IsSuffix, IsFullText, grey_text}
 use Rattle.group_symbol.specs.Parts.{IsEnding, IsEndingText, IsFullTextOf}
 use Rattle.group_symbol.specs.Walks.{walk}
 use Rattle.text_laws.proofs.GroupUnique.{same_count}
 use Rattle.group_symbol.proofs.Bodies.{Tails, Body, NoPrimes, IsOpen, Outcome, walk_outcome}
-use Rattle.group_symbol.proofs.Closed.{Spelled, Taken, walk_taken, body_spelled, spelled_body}
+use Rattle.group_symbol.proofs.Closed.{Taken, walk_taken, body_spelled, spelled_body}
 use Rattle.group_symbol.proofs.Endings.{suffix_first}
 use Rattle.group_symbol.proofs.SuffixRows.{no_suffix_is_one}
 

@@ -1,10 +1,11 @@
 -- The suffixes as alternatives, row by row.
-use Rattle.std.proofs.Common.{◌≡◌, ◌≢◌, ℕ, ◌+◌, ◌<◌, ◌≤◌, Bool, true, false, IsTrue, List, [], ◌∷◌, ◌++◌, length, get_or, take, refl, sym, ap, ◌∙◌, arith, lit<}
-use Rattle.std.proofs.lemmas.List.{take_all}
-use Rattle.text_defs.specs.Languages.{Begins, IsFaultPlace, IsFaulty}
+use Rattle.std.proofs.Common.{◌≡◌, ◌≢◌, ℕ, ◌+◌, ◌<◌, ◌≤◌, true, false, IsTrue, List, [], length, get_or, take, max, refl, sym, ◌∙◌, arith, lit<}
+use Rattle.std.proofs.Common.{inl, inr}
+use Rattle.std.proofs.lemmas.Bool.{cases_lt}
+use Rattle.text_defs.specs.Languages.{IsFaulty}
 use Rattle.fault_places.proofs.Places.{same_faulty}
 use Rattle.fault_places.proofs.Furthest.{Furthest, Furthest-skip, Furthest-stay, Furthest-go, Furthest-all, single_faulty}
-use Rattle.text_defs.specs.GroupTexts.{suffix_at, no_suffix, IsSuffix}
+use Rattle.text_defs.specs.GroupTexts.{suffix_at, no_suffix}
 use Rattle.group_symbol.specs.Parts.{IsSuffixText}
 
 abbrev pub Row : ℕ → ℕ → List ℕ → Type 0
@@ -40,14 +41,13 @@ module _ (parent : ℕ) (word : List ℕ) (row place : ℕ) (h : Rows parent wor
     row_faulty : (n ≡ length text → n ≡ length word → ⊥) → IsFaulty (Row parent row) word n
     row_faulty part = same_faulty (λ z. z ≡ text) (Row parent row) (λ z e. (is_taken, e ∙ is)) (λ z r. r.1 ∙ sym is) word n (single_faulty text word n in_text in_word same differ part)
 
-    pub Rows-stay : (n ≡ length text → n ≡ length word → ⊥) → n ≤ place → Rows parent word (row + 1) place
-    Rows-stay part le = Furthest-stay (IsSuffixText parent) (Row parent) row word place h n (row_faulty part) le
-
-    pub Rows-go : row < 7 → (n ≡ length text → n ≡ length word → ⊥) → place ≤ n → Rows parent word (row + 1) n
-    Rows-go lt part le = Furthest-go (IsSuffixText parent) (Row parent) row word place h n (row_text parent row lt) (row_faulty part) le
-
-    pub Rows-found : row < 7 → n ≡ length text → n ≡ length word → IsSuffix parent word ((suffix_at row).setting)
-    Rows-found lt all_text all_word = record { place = row; listed = lt; taken = is_taken; setting_is = refl; text_is = sym (whole word n all_word) ∙ sym same ∙ whole text n all_text ∙ is }
-      where
-        whole : (l : List ℕ) (k : ℕ) → k ≡ length l → take k l ≡ l
-        whole l k e = take_all k l (omega arith)
+    pub Rows-next : row < 7 → (n ≡ length text → n ≡ length word → ⊥) → Rows parent word (row + 1) (max place n)
+    Rows-next lt part =
+        elim (cases_lt place n) [
+          | inl less ↦
+              let is : max place n ≡ n = omega arith in
+              rw is (Furthest-go (IsSuffixText parent) (Row parent) row word place h n (row_text parent row lt) (row_faulty part) (omega arith))
+          | inr more ↦
+              let is : max place n ≡ place = omega arith in
+              rw is (Furthest-stay (IsSuffixText parent) (Row parent) row word place h n (row_faulty part) more)
+        ]

@@ -1,14 +1,12 @@
 -- The operations of operators, one after another.
-use Rattle.std.proofs.Common.{◌≡◌, ◌==◌, ◌%◌, ◌/◌, ◌+◌, ◌<◌, ◌≤◌, ℕ, Option, Some, None, List, [], ◌∷◌, ◌++◌}
-use Rattle.std.proofs.Common.{get_or, length, drop, refl, sym, ap, ◌∙◌, arith, append_assoc, append-nil, length-append}
-use Rattle.std.proofs.lemmas.List.{drop_more}
-use Rattle.std.proofs.Math.ListN.{drop_of_length-le}
+use Rattle.std.proofs.Common.{◌≡◌, ◌≤◌, ℕ, List, ◌++◌}
+use Rattle.std.proofs.Common.{length, drop}
 use Rattle.tensor_defs.specs.declared.Setting.{Setting}
 use Rattle.tensor_defs.specs.declared.OpKind.{OpKind}
 use Rattle.tensor_defs.specs.declared.Direction.{Direction}
 use Rattle.tensor_defs.specs.Operation.{Operation}
-use Rattle.tensor_defs.specs.Symbols.{operation_of, operations_of, turned_to, listed}
-use Rattle.group_symbol.specs.Operators.{operators_of}
+use Rattle.tensor_defs.specs.Symbols.{operations_of}
+use Rattle.group_symbol.specs.Tables.{operators_of}
 
 -- the operations of the first i operators are found, and the others are still to come
 pub record AreFound (s : Setting) (primes : ℕ) (operators : List (OpKind × Direction)) (found : List Operation) (i left : ℕ) : Type 0 where

@@ -1,5 +1,5 @@
 -- The text that is written for a symbol spells it, and is read as it.
-use Rattle.std.proofs.Common.{◌≡◌, ℕ, Bool, true, Result, Ok, Err, List, refl, ap, inl, lit<}
+use Rattle.std.proofs.Common.{◌≡◌, ℕ, true, Ok, Err, refl, ap, inl, lit<}
 use Rattle.tensor_defs.specs.declared.Setting.{Setting}
 use Rattle.tensor_defs.specs.declared.Setting.TheVariants.{Default, X, Z, XY, D, P}
 use Rattle.tensor_defs.specs.Symbols.{takes_setting}

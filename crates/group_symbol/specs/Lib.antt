@@ -1,5 +1,5 @@
 pub mod Readings
 pub mod Laws
-pub mod Operators
+pub mod Tables
 pub mod Parts
 pub mod Walks

@@ -1,5 +1,5 @@
 -- Reading the signs of a parent with their primes from the front of a word.
-use Rattle.std.specs.Prelude.{◌≡◌, ℕ, zero, suc, ◌+◌, ◌*◌, ◌==◌, Bool, true, false, List, [], ◌∷◌, Result, Ok, Err, if◌then◌else◌}
+use Rattle.std.specs.Prelude.{◌≡◌, ℕ, ◌+◌, ◌*◌, ◌==◌, Bool, true, false, List, [], ◌∷◌, Result, Ok, Err, if◌then◌else◌}
 use Rattle.text_defs.specs.declared.Fault.{Fault}
 use Rattle.text_defs.specs.GroupTexts.{ends_operator}
 

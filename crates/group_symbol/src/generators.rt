@@ -1,7 +1,7 @@
 //! The generators of a symbol's group.
 ghost use Rattle.std.specs.Prelude.{◌≡◌, ◌+◌, ◌≤◌, ◌<◌, [], ◌∷◌, ◌++◌, Some, length, slice_get, IsTrue, ◌↔◌};
 ghost use Rattle.tensor_defs.specs.Symbols.{generators, operations_of, turned_to};
-ghost use Rattle.group_symbol.specs.Operators.{operators_of};
+ghost use Rattle.group_symbol.specs.Tables.{operators_of};
 
 use crate::tree::SymbolTree;
 use op_matrix::{Op, generator};
@@ -34,7 +34,10 @@ impl Generators {
     fn none() -> Generators
         ensures { result ≡ [] }
     {
-        Generators { operations: [Op::identity(); MOST], len: 0 }
+        Generators {
+            operations: [Op::identity(); MOST],
+            len: 0,
+        }
     }
 
     /// Appends an operation.

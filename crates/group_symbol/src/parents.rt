@@ -1,6 +1,6 @@
 //! The parents: the 42 symbols without primes.
 ghost use Rattle.std.specs.Prelude.{◌≡◌, ◌≤◌, SomeIff, length};
-ghost use Rattle.group_symbol.specs.Operators.{operators_of};
+ghost use Rattle.group_symbol.specs.Tables.{operators_of};
 ghost use Rattle.tensor_defs.specs.Symbols.{parent_text, parent_operators, operator_count, takes_setting, is_monoclinic, is_orthorhombic, is_turned_trigonal};
 ghost use Rattle.text_defs.specs.GroupTexts.{ends_operator};
 
@@ -138,47 +138,172 @@ struct Row {
 
 /// The parents, the first of number 1.
 static PARENTS: [Row; 42] = [
-    Row { text: b"1", operators: &[] },
-    Row { text: b"-1", operators: &[(Bar1, Z)] },
-    Row { text: b"2", operators: &[(Two, Y)] },
-    Row { text: b"m", operators: &[(Mirror, Y)] },
-    Row { text: b"2/m", operators: &[(Two, Y), (Mirror, Y)] },
-    Row { text: b"222", operators: &[(Two, X), (Two, Y), (Two, Z)] },
-    Row { text: b"mm2", operators: &[(Mirror, X), (Mirror, Y), (Two, Z)] },
-    Row { text: b"m2m", operators: &[(Mirror, X), (Two, Y), (Mirror, Z)] },
-    Row { text: b"2mm", operators: &[(Two, X), (Mirror, Y), (Mirror, Z)] },
-    Row { text: b"mmm", operators: &[(Mirror, X), (Mirror, Y), (Mirror, Z)] },
-    Row { text: b"4", operators: &[(Four, Z)] },
-    Row { text: b"-4", operators: &[(Bar4, Z)] },
-    Row { text: b"4/m", operators: &[(Four, Z), (Mirror, Z)] },
-    Row { text: b"422", operators: &[(Four, Z), (Two, X), (Two, XmY)] },
-    Row { text: b"4mm", operators: &[(Four, Z), (Mirror, X), (Mirror, XmY)] },
-    Row { text: b"-42m", operators: &[(Bar4, Z), (Two, X), (Mirror, XmY)] },
-    Row { text: b"-4m2", operators: &[(Bar4, Z), (Mirror, X), (Two, XmY)] },
-    Row { text: b"4/mmm", operators: &[(Four, Z), (Mirror, Z), (Mirror, X), (Mirror, XmY)] },
-    Row { text: b"3", operators: &[(Three, Z)] },
-    Row { text: b"-3", operators: &[(Bar3, Z)] },
-    Row { text: b"32", operators: &[(Three, Z), (Two, X)] },
-    Row { text: b"321", operators: &[(Three, Z), (Two, X)] },
-    Row { text: b"312", operators: &[(Three, Z), (Two, Y)] },
-    Row { text: b"3m", operators: &[(Three, Z), (Mirror, X)] },
-    Row { text: b"3m1", operators: &[(Three, Z), (Mirror, X)] },
-    Row { text: b"31m", operators: &[(Three, Z), (Mirror, Y)] },
-    Row { text: b"-3m", operators: &[(Bar3, Z), (Mirror, X)] },
-    Row { text: b"-3m1", operators: &[(Bar3, Z), (Mirror, X)] },
-    Row { text: b"-31m", operators: &[(Bar3, Z), (Mirror, Y)] },
-    Row { text: b"6", operators: &[(Six, Z)] },
-    Row { text: b"-6", operators: &[(Bar6, Z)] },
-    Row { text: b"6/m", operators: &[(Six, Z), (Mirror, Z)] },
-    Row { text: b"622", operators: &[(Six, Z), (Two, X), (Two, Y)] },
-    Row { text: b"6mm", operators: &[(Six, Z), (Mirror, X), (Mirror, Y)] },
-    Row { text: b"-6m2", operators: &[(Bar6, Z), (Mirror, X), (Two, Y)] },
-    Row { text: b"-62m", operators: &[(Bar6, Z), (Two, X), (Mirror, Y)] },
-    Row { text: b"6/mmm", operators: &[(Six, Z), (Mirror, Z), (Mirror, X), (Mirror, Y)] },
-    Row { text: b"23", operators: &[(Two, Z), (Three, XYZ)] },
-    Row { text: b"m-3", operators: &[(Mirror, Z), (Bar3, XYZ)] },
-    Row { text: b"432", operators: &[(Four, Z), (Three, XYZ), (Two, XmY)] },
-    Row { text: b"-43m", operators: &[(Bar4, Z), (Three, XYZ), (Mirror, XmY)] },
-    Row { text: b"m-3m", operators: &[(Mirror, Z), (Bar3, XYZ), (Mirror, XmY)] },
+    Row {
+        text: b"1",
+        operators: &[],
+    },
+    Row {
+        text: b"-1",
+        operators: &[(Bar1, Z)],
+    },
+    Row {
+        text: b"2",
+        operators: &[(Two, Y)],
+    },
+    Row {
+        text: b"m",
+        operators: &[(Mirror, Y)],
+    },
+    Row {
+        text: b"2/m",
+        operators: &[(Two, Y), (Mirror, Y)],
+    },
+    Row {
+        text: b"222",
+        operators: &[(Two, X), (Two, Y), (Two, Z)],
+    },
+    Row {
+        text: b"mm2",
+        operators: &[(Mirror, X), (Mirror, Y), (Two, Z)],
+    },
+    Row {
+        text: b"m2m",
+        operators: &[(Mirror, X), (Two, Y), (Mirror, Z)],
+    },
+    Row {
+        text: b"2mm",
+        operators: &[(Two, X), (Mirror, Y), (Mirror, Z)],
+    },
+    Row {
+        text: b"mmm",
+        operators: &[(Mirror, X), (Mirror, Y), (Mirror, Z)],
+    },
+    Row {
+        text: b"4",
+        operators: &[(Four, Z)],
+    },
+    Row {
+        text: b"-4",
+        operators: &[(Bar4, Z)],
+    },
+    Row {
+        text: b"4/m",
+        operators: &[(Four, Z), (Mirror, Z)],
+    },
+    Row {
+        text: b"422",
+        operators: &[(Four, Z), (Two, X), (Two, XmY)],
+    },
+    Row {
+        text: b"4mm",
+        operators: &[(Four, Z), (Mirror, X), (Mirror, XmY)],
+    },
+    Row {
+        text: b"-42m",
+        operators: &[(Bar4, Z), (Two, X), (Mirror, XmY)],
+    },
+    Row {
+        text: b"-4m2",
+        operators: &[(Bar4, Z), (Mirror, X), (Two, XmY)],
+    },
+    Row {
+        text: b"4/mmm",
+        operators: &[(Four, Z), (Mirror, Z), (Mirror, X), (Mirror, XmY)],
+    },
+    Row {
+        text: b"3",
+        operators: &[(Three, Z)],
+    },
+    Row {
+        text: b"-3",
+        operators: &[(Bar3, Z)],
+    },
+    Row {
+        text: b"32",
+        operators: &[(Three, Z), (Two, X)],
+    },
+    Row {
+        text: b"321",
+        operators: &[(Three, Z), (Two, X)],
+    },
+    Row {
+        text: b"312",
+        operators: &[(Three, Z), (Two, Y)],
+    },
+    Row {
+        text: b"3m",
+        operators: &[(Three, Z), (Mirror, X)],
+    },
+    Row {
+        text: b"3m1",
+        operators: &[(Three, Z), (Mirror, X)],
+    },
+    Row {
+        text: b"31m",
+        operators: &[(Three, Z), (Mirror, Y)],
+    },
+    Row {
+        text: b"-3m",
+        operators: &[(Bar3, Z), (Mirror, X)],
+    },
+    Row {
+        text: b"-3m1",
+        operators: &[(Bar3, Z), (Mirror, X)],
+    },
+    Row {
+        text: b"-31m",
+        operators: &[(Bar3, Z), (Mirror, Y)],
+    },
+    Row {
+        text: b"6",
+        operators: &[(Six, Z)],
+    },
+    Row {
+        text: b"-6",
+        operators: &[(Bar6, Z)],
+    },
+    Row {
+        text: b"6/m",
+        operators: &[(Six, Z), (Mirror, Z)],
+    },
+    Row {
+        text: b"622",
+        operators: &[(Six, Z), (Two, X), (Two, Y)],
+    },
+    Row {
+        text: b"6mm",
+        operators: &[(Six, Z), (Mirror, X), (Mirror, Y)],
+    },
+    Row {
+        text: b"-6m2",
+        operators: &[(Bar6, Z), (Mirror, X), (Two, Y)],
+    },
+    Row {
+        text: b"-62m",
+        operators: &[(Bar6, Z), (Two, X), (Mirror, Y)],
+    },
+    Row {
+        text: b"6/mmm",
+        operators: &[(Six, Z), (Mirror, Z), (Mirror, X), (Mirror, Y)],
+    },
+    Row {
+        text: b"23",
+        operators: &[(Two, Z), (Three, XYZ)],
+    },
+    Row {
+        text: b"m-3",
+        operators: &[(Mirror, Z), (Bar3, XYZ)],
+    },
+    Row {
+        text: b"432",
+        operators: &[(Four, Z), (Three, XYZ), (Two, XmY)],
+    },
+    Row {
+        text: b"-43m",
+        operators: &[(Bar4, Z), (Three, XYZ), (Mirror, XmY)],
+    },
+    Row {
+        text: b"m-3m",
+        operators: &[(Mirror, Z), (Bar3, XYZ), (Mirror, XmY)],
+    },
 ];
-

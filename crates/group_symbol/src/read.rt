@@ -6,7 +6,7 @@ ghost use Rattle.group_symbol.specs.Readings.{ReadsGroup};
 ghost use Rattle.group_symbol.specs.Walks.{walk, Walked};
 
 use crate::parents::{Parent, ends_operator};
-use crate::suffixes::{suffix_at, takes_suffix};
+use crate::suffixes::suffix_at;
 use crate::tree::SymbolTree;
 use tensor_defs::Setting;
 use text_defs::Fault;
@@ -56,17 +56,15 @@ fn read_signs(signs: &[u8], word: &[u8]) -> Result<(u8, usize), Fault>
 fn read_suffix(parent: Parent, word: &[u8]) -> Result<Setting, Fault>
     ensures { ReadsSuffix parent word.now result }
 {
-    let mut place = 0;
+    let mut place = 0usize;
     for row in 0..7 {
-        if takes_suffix(parent, row) {
-            let suffix = suffix_at(row);
+        let suffix = suffix_at(row);
+        if suffix.parents.contains(parent) {
             let same = common_front(suffix.text, word);
             if same == suffix.text.len() && same == word.len() {
                 return Ok(suffix.setting);
             }
-            if same > place {
-                place = same;
-            }
+            place = place.max(same);
         }
     }
     Err(Fault { place })
@@ -118,20 +116,15 @@ fn read_as(parent: Parent, word: &[u8]) -> Result<SymbolTree, Fault>
 pub fn read_group(word: &[u8]) -> Result<SymbolTree, Fault>
     ensures { ReadsGroup word.now result }
 {
-    let mut place = common_front(b"1'", word);
-    if place == 2 && word.len() == 2 {
+    let mut furthest = common_front(b"1'", word);
+    if furthest == 2 && word.len() == 2 {
         return Ok(SymbolTree::grey_one());
     }
     for number in 1..43u8 {
-        let parent = Parent { number };
-        match read_as(parent, word) {
+        match read_as(Parent { number }, word) {
             Ok(tree) => return Ok(tree),
-            Err(fault) => {
-                if fault.place > place {
-                    place = fault.place;
-                }
-            }
+            Err(fault) => furthest = furthest.max(fault.place),
         }
     }
-    Err(Fault { place })
+    Err(Fault { place: furthest })
 }

@@ -25,7 +25,10 @@ impl ShortText {
     pub fn new() -> ShortText
         ensures { result ≡ [] }
     {
-        ShortText { bytes: [0; 16], len: 0 }
+        ShortText {
+            bytes: [0; 16],
+            len: 0,
+        }
     }
 
     /// Appends a byte.

@@ -1,69 +1,85 @@
 //! The suffixes of the settings.
 ghost use Rattle.std.specs.Prelude.{◌≡◌, ◌<◌};
+ghost use Rattle.group_symbol.specs.Tables.{suffix_of, takes};
 ghost use Rattle.text_defs.specs.GroupTexts.{suffix_at};
 
 use crate::parents::Parent;
 use tensor_defs::Setting;
 
-/// A suffix, and the setting that it says.
+/// The parents that take a suffix.
 #[derive(Clone, Copy, Drop)]
-pub struct Suffix {
+pub(crate) enum ParentClass {
+    All,
+    Monoclinic,
+    Orthorhombic,
+    TurnedTrigonal,
+}
+
+impl ParentClass {
+    /// Whether the parent is one of them.
+    pub fn contains(self, parent: Parent) -> bool
+        ensures { result ≡ takes self parent }
+    {
+        match self {
+            ParentClass::All => true,
+            ParentClass::Monoclinic => parent.is_monoclinic(),
+            ParentClass::Orthorhombic => parent.is_orthorhombic(),
+            ParentClass::TurnedTrigonal => parent.is_turned_trigonal(),
+        }
+    }
+}
+
+/// A suffix, the setting that it says, and the parents that take it.
+#[derive(Clone, Copy, Drop)]
+pub(crate) struct SuffixRow {
     pub text: &'static [u8],
     pub setting: Setting,
+    pub parents: ParentClass,
 }
 
-/// The suffix of this row of the table of seven.
-#[tactic(auto, unfolding(text_defs::specs::GroupTexts::suffix_at))]
-pub fn suffix_at(row: usize) -> Suffix
-    requires { row < 7 }
-    ensures text { result.text.now ≡ (suffix_at row).text }
-    ensures setting { result.setting ≡ (suffix_at row).setting }
-{
-    match row {
-        0 => Suffix {
-            text: b"",
-            setting: Setting::Default,
-        },
-        1 => Suffix {
-            text: b"@y",
-            setting: Setting::Default,
-        },
-        2 => Suffix {
-            text: b"@x",
-            setting: Setting::X,
-        },
-        3 => Suffix {
-            text: b"@z",
-            setting: Setting::Z,
-        },
-        4 => Suffix {
-            text: b"@xy",
-            setting: Setting::XY,
-        },
-        5 => Suffix {
-            text: b"@d",
-            setting: Setting::D,
-        },
-        _ => Suffix {
-            text: b"@p",
-            setting: Setting::P,
-        },
-    }
-}
+/// The suffixes. The text @y says the setting that a monoclinic parent has without a suffix.
+static SUFFIXES: [SuffixRow; 7] = [
+    SuffixRow {
+        text: b"",
+        setting: Setting::Default,
+        parents: ParentClass::All,
+    },
+    SuffixRow {
+        text: b"@y",
+        setting: Setting::Default,
+        parents: ParentClass::Monoclinic,
+    },
+    SuffixRow {
+        text: b"@x",
+        setting: Setting::X,
+        parents: ParentClass::Monoclinic,
+    },
+    SuffixRow {
+        text: b"@z",
+        setting: Setting::Z,
+        parents: ParentClass::Monoclinic,
+    },
+    SuffixRow {
+        text: b"@xy",
+        setting: Setting::XY,
+        parents: ParentClass::Monoclinic,
+    },
+    SuffixRow {
+        text: b"@d",
+        setting: Setting::D,
+        parents: ParentClass::Orthorhombic,
+    },
+    SuffixRow {
+        text: b"@p",
+        setting: Setting::P,
+        parents: ParentClass::TurnedTrigonal,
+    },
+];
 
-/// Whether the parent takes the suffix of this row.
-#[tactic(auto, unfolding(text_defs::specs::GroupTexts::suffix_at))]
-pub fn takes_suffix(parent: Parent, row: usize) -> bool
+/// The suffix at a row of the table.
+pub(crate) fn suffix_at(row: usize) -> &'static SuffixRow
     requires { row < 7 }
-    ensures { result ≡ (suffix_at row).parents parent }
+    ensures { suffix_of result.now ≡ suffix_at row }
 {
-    match row {
-        0 => true,
-        1 => parent.is_monoclinic(),
-        2 => parent.is_monoclinic(),
-        3 => parent.is_monoclinic(),
-        4 => parent.is_monoclinic(),
-        5 => parent.is_orthorhombic(),
-        _ => parent.is_turned_trigonal(),
-    }
+    &SUFFIXES[row]
 }

@@ -42,7 +42,12 @@ impl SymbolTree {
         if grey && primes != 0 {
             return None;
         }
-        Some(SymbolTree { parent, primes, grey, setting })
+        Some(SymbolTree {
+            parent,
+            primes,
+            grey,
+            setting,
+        })
     }
 
     /// The grey symbol of the parent 1.

@@ -68,8 +68,6 @@ pub fn write_group(tree: &SymbolTree, out: &mut Vec<u8>) -> Result<(), NoMemory>
     ensures full { OnErr result (vec_capacity out.old < vec_len out.old + 16) }
     ensures capacity { vec_capacity out.old ≤ vec_capacity out.new }
 {
-    match out.extend_from_slice(text_of(tree).as_slice()) {
-        Ok(()) => Ok(()),
-        Err(_) => Err(NoMemory),
-    }
+    out.extend_from_slice(text_of(tree).as_slice())
+        .map_err(|_| NoMemory)
 }

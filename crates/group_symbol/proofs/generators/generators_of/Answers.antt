@@ -1,4 +1,4 @@
-use Rattle.std.proofs.Common.{refl, sym, ◌∙◌, append-nil}
+use Rattle.std.proofs.Common.{refl, sym, append-nil}
 use Rattle.tensor_defs.specs.Symbols.{generators}
 use Rattle.group_symbol.proofs.generators.generators_of.Goals as goal
 

@@ -1,12 +1,10 @@
-use Rattle.std.proofs.Common.{◌≡◌, ◌≤◌, ◌<◌, ◌-◌, ◌+◌, ℕ, refl, sym, ◌∙◌, arith, length, drop, take, Result, Ok, Err, eqb}
+use Rattle.std.proofs.Common.{◌≡◌, ◌-◌, arith, length, drop, take, Ok, Err, eqb}
 use Rattle.std.proofs.lemmas.Result.{err_from_is_err_and}
 use Rattle.std.proofs.lemmas.List.{take_all, length-drop}
 use Rattle.text_defs.specs.Languages.{IsFaulty}
-use Rattle.tensor_defs.specs.Symbols.{parent_text}
-use Rattle.text_defs.specs.GroupTexts.{operators_in}
 use Rattle.group_symbol.specs.Walks.{walk}
-use Rattle.group_symbol.specs.Parts.{IsEnding, IsEndingText}
-use Rattle.group_symbol.proofs.ParentTexts.{EndingOf, few_operators, signs_wrong, signs_through, ending_wrong, ending_right, symbol_is, signs_taken}
+use Rattle.group_symbol.specs.Parts.{IsEnding}
+use Rattle.group_symbol.proofs.ParentTexts.{EndingOf, few_operators, signs_wrong, ending_wrong, ending_right, symbol_is, signs_taken}
 use Rattle.group_symbol.proofs.read.read_as.Goals as goal
 
 pub read_signs-requires : goal.read_signs-requires

@@ -1,4 +1,4 @@
-use Rattle.std.proofs.Common.{◌≡◌, ◌≢◌, ◌∙◌, ◌≤◌, ◌<◌, refl, sym, arith, length, get_or, Bool, true, false, take, drop, ◌-◌}
+use Rattle.std.proofs.Common.{◌≡◌, ◌≢◌, ◌∙◌, ◌<◌, sym, arith, length, get_or, Bool, true, false, take, drop, ◌-◌}
 use Rattle.std.proofs.lemmas.List.{take_all, length-drop}
 use Rattle.text_defs.specs.Languages.{IsFaulty}
 use Rattle.fault_places.proofs.Places.{Through-faulty}

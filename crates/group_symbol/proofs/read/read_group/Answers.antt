@@ -1,26 +1,28 @@
-use Rattle.std.proofs.Common.{◌≡◌, ◌≤◌, ◌<◌, ◌+◌, arith, length}
+use Rattle.std.proofs.Common.{◌≡◌, arith, length}
 use Rattle.text_defs.specs.Languages.{IsFaulty}
 use Rattle.group_symbol.specs.Parts.{IsFullTextOf}
-use Rattle.group_symbol.proofs.Alternatives.{Tried, first_tried, tried_further, tried_same, all_tried}
+use Rattle.group_symbol.proofs.Alternatives.{first_tried, tried_next, all_tried}
 use Rattle.group_symbol.proofs.read.read_group.Goals as goal
-use Rattle.group_symbol.proofs.read.read_group.Goals.{else-place-eq2-via-then-place-eq2+else-word-eq2, else-place-eq2-via-else-place-eq2, then-fault-place, else-fault-place}
+use Rattle.group_symbol.proofs.read.read_group.Goals.{else-furthest-eq2-via-then-furthest-eq2+else-word-eq2, else-furthest-eq2-via-else-furthest-eq2}
 
 pub loop-number-init : goal.loop-number-init
 loop-number-init c =
-    let f = c.common_front-place.ensures in
-    let part : c.common_front-place.result ≡ 2 → length c.args.word.now ≡ 2 → ⊥ = λ a b. elim c.else-place-eq2.branch [ else-place-eq2-via-then-place-eq2+else-word-eq2 w ↦ w.if-word-eq2.false b | else-place-eq2-via-else-place-eq2 w ↦ w.if-place-eq2.false a ] in
-    first_tried c.args.word.now c.common_front-place.result f.within_a f.within_b f.same f.differ part
+    let f = c.common_front-furthest.ensures in
+    let part : c.common_front-furthest.result ≡ 2 → length c.args.word.now ≡ 2 → ⊥ =
+    λ front whole. elim c.else-furthest-eq2.branch [
+      | else-furthest-eq2-via-then-furthest-eq2+else-word-eq2 w ↦ w.if-word-eq2.false whole
+      | else-furthest-eq2-via-else-furthest-eq2 w ↦ w.if-furthest-eq2.false front
+    ]
+    in
+    first_tried c.args.word.now c.common_front-furthest.result f.within_a f.within_b f.same f.differ part
 
 pub loop-number-preserved : goal.loop-number-preserved
 loop-number-preserved c =
     let word = c.args.word.now in
     let faulty : IsFaulty (IsFullTextOf c.loop-number.number) word c.in-Err.fault.place = c.in-Err.ensures in
-    elim c.if-fault-place.branch [
-      | then-fault-place w ↦ rw w.place-is (tried_further word c.loop-number.number c.loop-number.place (omega arith) c.loop-number.invariant c.in-Err.fault.place faulty (omega arith))
-      | else-fault-place w ↦ rw w.place-is (tried_same word c.loop-number.number c.loop-number.place (omega arith) c.loop-number.invariant c.in-Err.fault.place faulty (omega arith))
-    ]
+    rw c.max-furthest.ensures (tried_next word c.loop-number.number c.loop-number.furthest (omega arith) c.loop-number.invariant c.in-Err.fault.place faulty)
 
 pub returns : goal.returns
 returns c =
     let e : c.loop-number.number ≡ 43 = omega arith in
-    all_tried c.args.word.now c.loop-number.place (rw e at c.loop-number.invariant)
+    all_tried c.args.word.now c.loop-number.furthest (rw e at c.loop-number.invariant)

@@ -1,6 +1,6 @@
-use Rattle.std.proofs.Common.{◌≡◌, refl, ◌∙◌, ◌≤◌, ◌<◌, sym, arith, length, get_or, true, false}
+use Rattle.std.proofs.Common.{◌≡◌, refl, ◌∙◌, ◌<◌, sym, arith, length, get_or, true}
 use Rattle.text_defs.specs.GroupTexts.{ends_operator}
-use Rattle.group_symbol.proofs.WalkSteps.{Stands, Stands-start, Stands-end, Stands-short, Stands-wrong, Stands-plain, Stands-unprimed, Stands-primed}
+use Rattle.group_symbol.proofs.WalkSteps.{Stands-start, Stands-end, Stands-short, Stands-wrong, Stands-plain, Stands-unprimed, Stands-primed}
 use Rattle.group_symbol.proofs.read.read_signs.Goals as goal
 use Rattle.group_symbol.proofs.read.read_signs.Goals.{then-at-word-via-then-at-word, then-at-word-via-else-at-word+then-word-at, then-ends_operator, else-ends_operator, then-at-word-2+then-word-at-eq39, else-at-word-2, else-at-word-2-via-then-at-word-2+else-word-at-eq39, else-at-word-2-via-else-at-word-2}
 

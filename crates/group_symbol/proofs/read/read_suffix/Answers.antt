@@ -1,8 +1,8 @@
-use Rattle.std.proofs.Common.{◌≡◌, ◌≢◌, refl, ◌∙◌, ◌≤◌, ◌<◌, sym, subst, arith, length, get_or, true, false}
-use Rattle.text_defs.specs.GroupTexts.{suffix_at}
-use Rattle.group_symbol.proofs.SuffixRows.{Rows, Rows-start, Rows-end, Rows-skip, Rows-stay, Rows-go, Rows-found}
+use Rattle.std.proofs.Common.{◌≡◌, ◌∙◌, sym, ap, arith, length}
+use Rattle.text_defs.specs.GroupTexts.{Suffix, suffix_at}
+use Rattle.group_symbol.proofs.SuffixRows.{Rows-start, Rows-end, Rows-skip, Rows-next}
 use Rattle.group_symbol.proofs.read.read_suffix.Goals as goal
-use Rattle.group_symbol.proofs.read.read_suffix.Goals.{then-takes_suffix+else-same-suffix+then-same-place, else-same-suffix-via-then-same-suffix+else-same-word, else-same-suffix-via-else-same-suffix, then-takes_suffix+else-same-suffix+else-same-place, else-takes_suffix}
+use Rattle.group_symbol.proofs.read.read_suffix.Goals.{then-contains+else-same-suffix, else-same-suffix-via-then-same-suffix+else-same-word, else-same-suffix-via-else-same-suffix, else-contains}
 
 pub loop-row-init : goal.loop-row-init
 loop-row-init c = Rows-start c.args.parent c.args.word.now
@@ -17,21 +17,21 @@ loop-row-preserved c =
     let parent = c.args.parent in
     let word = c.args.word.now in
     let row = c.loop-row.row in
-    let h = c.loop-row.invariant in
-    elim c.if-takes_suffix.branch [
-      | then-takes_suffix+else-same-suffix+then-same-place w ↦
+    let contains : (suffix_at row).parents parent ≡ c.contains.result =
+    sym (ap (λ (s : Suffix). s.parents parent) c.suffix_at-suffix.ensures) ∙ sym c.contains.ensures
+    in
+    elim c.if-contains.branch [
+      | then-contains+else-same-suffix w ↦
           let n = w.common_front-same.result in
           let f = w.common_front-same.ensures in
-          let text = w.suffix_at-suffix.result.text.now in
-          let taken : (suffix_at row).parents parent ≡ true = sym c.takes_suffix.ensures ∙ w.if-takes_suffix.true in
-          let part : n ≡ length text → n ≡ length word → ⊥ = λ a b. elim w.else-same-suffix.branch [ else-same-suffix-via-then-same-suffix+else-same-word u ↦ u.if-same-word.false b | else-same-suffix-via-else-same-suffix u ↦ u.if-same-suffix.false a ] in
-          rw w.place-is (Rows-go parent word row c.loop-row.place h taken text w.suffix_at-suffix.ensures.text n f.within_a f.within_b f.same f.differ (omega arith) part (omega arith))
-      | then-takes_suffix+else-same-suffix+else-same-place w ↦
-          let n = w.common_front-same.result in
-          let f = w.common_front-same.ensures in
-          let text = w.suffix_at-suffix.result.text.now in
-          let taken : (suffix_at row).parents parent ≡ true = sym c.takes_suffix.ensures ∙ w.if-takes_suffix.true in
-          let part : n ≡ length text → n ≡ length word → ⊥ = λ a b. elim w.else-same-suffix.branch [ else-same-suffix-via-then-same-suffix+else-same-word u ↦ u.if-same-word.false b | else-same-suffix-via-else-same-suffix u ↦ u.if-same-suffix.false a ] in
-          rw w.place-is (Rows-stay parent word row c.loop-row.place h taken text w.suffix_at-suffix.ensures.text n f.within_a f.within_b f.same f.differ part (omega arith))
-      | else-takes_suffix w ↦ rw w.place-is (Rows-skip parent word row c.loop-row.place h (sym c.takes_suffix.ensures ∙ w.if-takes_suffix.false))
+          let text = c.suffix_at-suffix.result.now.text.now in
+          let part : n ≡ length text → n ≡ length word → ⊥ =
+          λ whole_text whole_word. elim w.else-same-suffix.branch [
+            | else-same-suffix-via-then-same-suffix+else-same-word u ↦ u.if-same-word.false whole_word
+            | else-same-suffix-via-else-same-suffix u ↦ u.if-same-suffix.false whole_text
+          ]
+          in
+          rw (w.place-is, w.max-place.ensures) (Rows-next parent word row c.loop-row.place c.loop-row.invariant (contains ∙ w.if-contains.true) text (ap (λ (s : Suffix). s.text) c.suffix_at-suffix.ensures) n f.within_a f.within_b f.same f.differ (omega arith) part)
+      | else-contains w ↦
+          rw w.place-is (Rows-skip parent word row c.loop-row.place c.loop-row.invariant (contains ∙ w.if-contains.false))
     ]

@@ -1,6 +1,6 @@
 use Rattle.std.proofs.Common.{◌<◌, ◌-◌, refl, arith}
 use Rattle.tensor_defs.specs.Symbols.{parent_text, parent_operators}
-use Rattle.group_symbol.proofs.ParentRows.{row_text, row_operators}
+use Rattle.group_symbol.proofs.TableRows.{row_text, row_operators}
 use Rattle.group_symbol.proofs.parents.Parent.row.Goals as goal
 
 pub returns-clause-text : goal.returns-clause-text

@@ -1,8 +1,9 @@
--- The table of parents, read at a place.
-use Rattle.std.proofs.Common.{◌≡◌, ℕ, zero, suc, ◌<◌, ◌≤◌, List, [], ◌∷◌, length, get_or, refl, arith}
+-- The tables of parents and of suffixes, read at a place.
+use Rattle.std.proofs.Common.{◌≡◌, ℕ, zero, suc, ◌<◌, List, [], ◌∷◌, length, get_or, refl, arith}
 use Rattle.std.specs.Prelude.{map}
-use Rattle.tensor_defs.specs.Symbols.{Operator}
-use Rattle.group_symbol.specs.Operators.{operators_of}
+use Rattle.text_defs.specs.GroupTexts.{no_suffix}
+use Rattle.group_symbol.specs.Tables.{operators_of, suffix_of}
+use Rattle.group_symbol.specs.declared.suffixes.SuffixRow.{SuffixRow}
 use Rattle.group_symbol.specs.declared.parents.Row.{Row}
 
 pub row_text : (rows : List Row) (k : ℕ) (d : Row) → k < length rows →
@@ -16,3 +17,9 @@ pub row_operators : (rows : List Row) (k : ℕ) (d : Row) → k < length rows �
 row_operators [] k d lt = absurd (omega arith)
 row_operators (r ∷ rs) zero d lt = refl
 row_operators (r ∷ rs) (suc k) d lt = row_operators rs k d (omega arith)
+
+pub row_suffix : (rows : List SuffixRow) (k : ℕ) (d : SuffixRow) → k < length rows →
+    suffix_of (get_or rows k d) ≡ get_or (map suffix_of rows) k no_suffix
+row_suffix [] k d lt = absurd (omega arith)
+row_suffix (r ∷ rs) zero d lt = refl
+row_suffix (r ∷ rs) (suc k) d lt = row_suffix rs k d (omega arith)
