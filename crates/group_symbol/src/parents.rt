@@ -53,7 +53,7 @@ impl Parent {
         ensures count { result ≡ operator_count self.now }
         ensures few { result ≤ 4 }
     {
-        self.row().operators.len()
+        self.row().1.len()
     }
 
     /// The text without primes.
@@ -63,7 +63,7 @@ impl Parent {
         ensures first { 1 ≤ self.now }
         ensures last { self.now ≤ 42 }
     {
-        self.row().text
+        self.row().0
     }
 
     /// Its operators from left to right, with their directions in the default setting.
@@ -71,13 +71,13 @@ impl Parent {
         ensures value { operators_of result.now ≡ parent_operators self.now }
         ensures few { length result.now ≤ 4 }
     {
-        self.row().operators
+        self.row().1
     }
 
     /// Its row of the table.
     fn row(&self) -> &'static Row
-        ensures text { result.now.text.now ≡ parent_text self.now }
-        ensures operators { operators_of result.now.operators.now ≡ parent_operators self.now }
+        ensures text { result.now.0.now ≡ parent_text self.now }
+        ensures operators { operators_of result.now.1.now ≡ parent_operators self.now }
         ensures first { 1 ≤ self.now }
         ensures last { self.now ≤ 42 }
     {
@@ -131,179 +131,53 @@ pub(crate) fn ends_operator(previous: u8, sign: u8) -> bool
 }
 
 /// A parent's text, and its operators from left to right.
-struct Row {
-    text: &'static [u8],
-    operators: &'static [(OpKind, Direction)],
-}
+type Row = (&'static [u8], &'static [(OpKind, Direction)]);
 
 /// The parents, the first of number 1.
 static PARENTS: [Row; 42] = [
-    Row {
-        text: b"1",
-        operators: &[],
-    },
-    Row {
-        text: b"-1",
-        operators: &[(Bar1, Z)],
-    },
-    Row {
-        text: b"2",
-        operators: &[(Two, Y)],
-    },
-    Row {
-        text: b"m",
-        operators: &[(Mirror, Y)],
-    },
-    Row {
-        text: b"2/m",
-        operators: &[(Two, Y), (Mirror, Y)],
-    },
-    Row {
-        text: b"222",
-        operators: &[(Two, X), (Two, Y), (Two, Z)],
-    },
-    Row {
-        text: b"mm2",
-        operators: &[(Mirror, X), (Mirror, Y), (Two, Z)],
-    },
-    Row {
-        text: b"m2m",
-        operators: &[(Mirror, X), (Two, Y), (Mirror, Z)],
-    },
-    Row {
-        text: b"2mm",
-        operators: &[(Two, X), (Mirror, Y), (Mirror, Z)],
-    },
-    Row {
-        text: b"mmm",
-        operators: &[(Mirror, X), (Mirror, Y), (Mirror, Z)],
-    },
-    Row {
-        text: b"4",
-        operators: &[(Four, Z)],
-    },
-    Row {
-        text: b"-4",
-        operators: &[(Bar4, Z)],
-    },
-    Row {
-        text: b"4/m",
-        operators: &[(Four, Z), (Mirror, Z)],
-    },
-    Row {
-        text: b"422",
-        operators: &[(Four, Z), (Two, X), (Two, XmY)],
-    },
-    Row {
-        text: b"4mm",
-        operators: &[(Four, Z), (Mirror, X), (Mirror, XmY)],
-    },
-    Row {
-        text: b"-42m",
-        operators: &[(Bar4, Z), (Two, X), (Mirror, XmY)],
-    },
-    Row {
-        text: b"-4m2",
-        operators: &[(Bar4, Z), (Mirror, X), (Two, XmY)],
-    },
-    Row {
-        text: b"4/mmm",
-        operators: &[(Four, Z), (Mirror, Z), (Mirror, X), (Mirror, XmY)],
-    },
-    Row {
-        text: b"3",
-        operators: &[(Three, Z)],
-    },
-    Row {
-        text: b"-3",
-        operators: &[(Bar3, Z)],
-    },
-    Row {
-        text: b"32",
-        operators: &[(Three, Z), (Two, X)],
-    },
-    Row {
-        text: b"321",
-        operators: &[(Three, Z), (Two, X)],
-    },
-    Row {
-        text: b"312",
-        operators: &[(Three, Z), (Two, Y)],
-    },
-    Row {
-        text: b"3m",
-        operators: &[(Three, Z), (Mirror, X)],
-    },
-    Row {
-        text: b"3m1",
-        operators: &[(Three, Z), (Mirror, X)],
-    },
-    Row {
-        text: b"31m",
-        operators: &[(Three, Z), (Mirror, Y)],
-    },
-    Row {
-        text: b"-3m",
-        operators: &[(Bar3, Z), (Mirror, X)],
-    },
-    Row {
-        text: b"-3m1",
-        operators: &[(Bar3, Z), (Mirror, X)],
-    },
-    Row {
-        text: b"-31m",
-        operators: &[(Bar3, Z), (Mirror, Y)],
-    },
-    Row {
-        text: b"6",
-        operators: &[(Six, Z)],
-    },
-    Row {
-        text: b"-6",
-        operators: &[(Bar6, Z)],
-    },
-    Row {
-        text: b"6/m",
-        operators: &[(Six, Z), (Mirror, Z)],
-    },
-    Row {
-        text: b"622",
-        operators: &[(Six, Z), (Two, X), (Two, Y)],
-    },
-    Row {
-        text: b"6mm",
-        operators: &[(Six, Z), (Mirror, X), (Mirror, Y)],
-    },
-    Row {
-        text: b"-6m2",
-        operators: &[(Bar6, Z), (Mirror, X), (Two, Y)],
-    },
-    Row {
-        text: b"-62m",
-        operators: &[(Bar6, Z), (Two, X), (Mirror, Y)],
-    },
-    Row {
-        text: b"6/mmm",
-        operators: &[(Six, Z), (Mirror, Z), (Mirror, X), (Mirror, Y)],
-    },
-    Row {
-        text: b"23",
-        operators: &[(Two, Z), (Three, XYZ)],
-    },
-    Row {
-        text: b"m-3",
-        operators: &[(Mirror, Z), (Bar3, XYZ)],
-    },
-    Row {
-        text: b"432",
-        operators: &[(Four, Z), (Three, XYZ), (Two, XmY)],
-    },
-    Row {
-        text: b"-43m",
-        operators: &[(Bar4, Z), (Three, XYZ), (Mirror, XmY)],
-    },
-    Row {
-        text: b"m-3m",
-        operators: &[(Mirror, Z), (Bar3, XYZ), (Mirror, XmY)],
-    },
+    (b"1", &[]),
+    (b"-1", &[(Bar1, Z)]),
+    (b"2", &[(Two, Y)]),
+    (b"m", &[(Mirror, Y)]),
+    (b"2/m", &[(Two, Y), (Mirror, Y)]),
+    (b"222", &[(Two, X), (Two, Y), (Two, Z)]),
+    (b"mm2", &[(Mirror, X), (Mirror, Y), (Two, Z)]),
+    (b"m2m", &[(Mirror, X), (Two, Y), (Mirror, Z)]),
+    (b"2mm", &[(Two, X), (Mirror, Y), (Mirror, Z)]),
+    (b"mmm", &[(Mirror, X), (Mirror, Y), (Mirror, Z)]),
+    (b"4", &[(Four, Z)]),
+    (b"-4", &[(Bar4, Z)]),
+    (b"4/m", &[(Four, Z), (Mirror, Z)]),
+    (b"422", &[(Four, Z), (Two, X), (Two, XmY)]),
+    (b"4mm", &[(Four, Z), (Mirror, X), (Mirror, XmY)]),
+    (b"-42m", &[(Bar4, Z), (Two, X), (Mirror, XmY)]),
+    (b"-4m2", &[(Bar4, Z), (Mirror, X), (Two, XmY)]),
+    (
+        b"4/mmm",
+        &[(Four, Z), (Mirror, Z), (Mirror, X), (Mirror, XmY)],
+    ),
+    (b"3", &[(Three, Z)]),
+    (b"-3", &[(Bar3, Z)]),
+    (b"32", &[(Three, Z), (Two, X)]),
+    (b"321", &[(Three, Z), (Two, X)]),
+    (b"312", &[(Three, Z), (Two, Y)]),
+    (b"3m", &[(Three, Z), (Mirror, X)]),
+    (b"3m1", &[(Three, Z), (Mirror, X)]),
+    (b"31m", &[(Three, Z), (Mirror, Y)]),
+    (b"-3m", &[(Bar3, Z), (Mirror, X)]),
+    (b"-3m1", &[(Bar3, Z), (Mirror, X)]),
+    (b"-31m", &[(Bar3, Z), (Mirror, Y)]),
+    (b"6", &[(Six, Z)]),
+    (b"-6", &[(Bar6, Z)]),
+    (b"6/m", &[(Six, Z), (Mirror, Z)]),
+    (b"622", &[(Six, Z), (Two, X), (Two, Y)]),
+    (b"6mm", &[(Six, Z), (Mirror, X), (Mirror, Y)]),
+    (b"-6m2", &[(Bar6, Z), (Mirror, X), (Two, Y)]),
+    (b"-62m", &[(Bar6, Z), (Two, X), (Mirror, Y)]),
+    (b"6/mmm", &[(Six, Z), (Mirror, Z), (Mirror, X), (Mirror, Y)]),
+    (b"23", &[(Two, Z), (Three, XYZ)]),
+    (b"m-3", &[(Mirror, Z), (Bar3, XYZ)]),
+    (b"432", &[(Four, Z), (Three, XYZ), (Two, XmY)]),
+    (b"-43m", &[(Bar4, Z), (Three, XYZ), (Mirror, XmY)]),
+    (b"m-3m", &[(Mirror, Z), (Bar3, XYZ), (Mirror, XmY)]),
 ];
