@@ -1,49 +1,51 @@
 use super::*;
 use std::test::Fail;
 
-/// The parent that a word is read with, or 100 and the place where it goes wrong.
-fn reading(word: &[u8]) -> usize {
+/// The number of the parent that a word is read with, or the place where it goes wrong.
+fn reading(word: &[u8]) -> Result<u8, usize> {
     match read_group(word) {
-        Ok(tree) => tree.parent().number() as usize,
-        Err(fault) => 100 + fault.place.min(100),
+        Ok(tree) => Ok(tree.parent().number()),
+        Err(fault) => Err(fault.place),
     }
 }
 
+/// Words, and the parents that they are read with, or the places where they go wrong.
+static WORDS: [(&[u8], Result<u8, usize>); 29] = [
+    (b"3m1'", Ok(24)),
+    (b"3m11'", Ok(25)),
+    (b"1'", Ok(1)),
+    (b"11'", Ok(1)),
+    (b"321'", Ok(21)),
+    (b"32", Ok(21)),
+    (b"321", Ok(22)),
+    (b"3211'", Ok(22)),
+    (b"m'-3'", Ok(39)),
+    (b"m'-3'm'", Ok(42)),
+    (b"3'", Ok(19)),
+    (b"3'1m'", Ok(26)),
+    (b"4'/m'm'm'", Ok(18)),
+    (b"2@y", Ok(3)),
+    (b"21'@y", Ok(3)),
+    (b"2/m1'@xy", Ok(5)),
+    (b"m2m@d", Ok(8)),
+    (b"-3'm@p", Ok(27)),
+    (b"2'1'", Err(2)),
+    (b"4/mm", Err(4)),
+    (b"2@xyz", Err(4)),
+    (b"1'x", Err(2)),
+    (b"1'@y", Err(2)),
+    (b"", Err(0)),
+    (b"m-3m@d", Err(4)),
+    (b"3'm1'", Err(4)),
+    (b"21", Err(2)),
+    (b"2@d", Err(2)),
+    (b"x", Err(0)),
+];
+
 #[test]
 fn words_are_read(rt: HostRuntime) -> Result<(), Fail> {
-    let words: [(&[u8], usize); 29] = [
-        (b"3m1'", 24),
-        (b"3m11'", 25),
-        (b"1'", 1),
-        (b"11'", 1),
-        (b"321'", 21),
-        (b"32", 21),
-        (b"321", 22),
-        (b"3211'", 22),
-        (b"m'-3'", 39),
-        (b"m'-3'm'", 42),
-        (b"3'", 19),
-        (b"3'1m'", 26),
-        (b"4'/m'm'm'", 18),
-        (b"2@y", 3),
-        (b"21'@y", 3),
-        (b"2/m1'@xy", 5),
-        (b"m2m@d", 8),
-        (b"-3'm@p", 27),
-        (b"2'1'", 102),
-        (b"4/mm", 104),
-        (b"2@xyz", 104),
-        (b"1'x", 102),
-        (b"1'@y", 102),
-        (b"", 100),
-        (b"m-3m@d", 104),
-        (b"3'm1'", 104),
-        (b"21", 102),
-        (b"2@d", 102),
-        (b"x", 100),
-    ];
-    for (word, wanted) in words {
-        assert_eq!(rt; reading(word), wanted);
+    for (word, wanted) in &WORDS {
+        assert_eq!(rt; reading(word), *wanted);
     }
     Ok(())
 }
@@ -56,22 +58,24 @@ fn rewritten(word: &[u8], out: &mut Vec<u8>) -> Result<(), NoMemory> {
     Ok(())
 }
 
+/// Words, and the texts that are written for what they spell.
+static TEXTS: [(&[u8], &[u8]); 8] = [
+    (b"1'", b"11'"),
+    (b"2@y", b"2"),
+    (b"21'@y", b"21'"),
+    (b"3m1'", b"3m1'"),
+    (b"4'/m'm'm'", b"4'/m'm'm'"),
+    (b"2/m1'@xy", b"2/m1'@xy"),
+    (b"m'm'2@d", b"m'm'2@d"),
+    (b"-3'm@p", b"-3'm@p"),
+];
+
 #[test]
 fn texts_are_written(rt: HostRuntime) -> Result<(), Fail> {
-    let words: [(&[u8], &[u8]); 8] = [
-        (b"1'", b"11'"),
-        (b"2@y", b"2"),
-        (b"21'@y", b"21'"),
-        (b"3m1'", b"3m1'"),
-        (b"4'/m'm'm'", b"4'/m'm'm'"),
-        (b"2/m1'@xy", b"2/m1'@xy"),
-        (b"m'm'2@d", b"m'm'2@d"),
-        (b"-3'm@p", b"-3'm@p"),
-    ];
-    for (word, text) in words {
+    for (word, text) in &TEXTS {
         let mut out = Vec::new(rt.alloc());
         rewritten(word, &mut out)?;
-        assert_eq!(rt; out.as_slice(), text);
+        assert_eq!(rt; out.as_slice(), *text);
     }
     Ok(())
 }
