@@ -1,0 +1,8 @@
+mod LineLemmas
+mod FirstLine
+mod LineAnswers
+mod FormRows
+mod AnswerLemmas
+mod Cuts
+mod Progress
+mod Exits
