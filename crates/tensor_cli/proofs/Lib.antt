@@ -1,5 +1,4 @@
 mod LineLemmas
-mod FirstLine
 mod LineAnswers
 mod FormRows
 mod AnswerLemmas

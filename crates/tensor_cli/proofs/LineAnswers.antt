@@ -8,7 +8,7 @@ use Rattle.tensor_cli.specs.Stage.{StageWord, IsBuilt, StageRefuses, StageAnswer
 use Rattle.tensor_cli.specs.Stage.{stage_refusal_text}
 use Rattle.tensor_cli.specs.Reads.{Stands}
 use Rattle.tensor_cli.specs.Forms.{vector_form_text}
-use Rattle.tensor_cli.proofs.FirstLine.{first_line_answered}
+use Rattle.worked_rows.proofs.FirstLine.{first_line_answered}
 
 pub is_refused : (line : List ℕ) (word : StageWord) (column : ℕ) → 0 < length line → StageRefuses line word column
     → IsStageRefused line
