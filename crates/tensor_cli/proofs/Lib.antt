@@ -1,0 +1,7 @@
+mod LineLemmas
+mod LineAnswers
+mod FormRows
+mod AnswerLemmas
+mod Cuts
+mod Progress
+mod Exits

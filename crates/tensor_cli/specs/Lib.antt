@@ -1,0 +1,5 @@
+pub mod Stage
+pub mod Words
+pub mod Forms
+pub mod Reads
+pub mod Runs

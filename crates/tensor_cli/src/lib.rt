@@ -1,0 +1,19 @@
+//! The top call: reads request lines from a source, and writes the answer of each to a sink.
+#![tactic(auto)]
+
+mod answers;
+mod buffer;
+mod forms;
+mod memory;
+mod outcome;
+mod refusals;
+mod text;
+mod top;
+
+pub use answers::{LineEnd, answer_line, refuse_long};
+pub use memory::NoMemory;
+pub use outcome::Outcome;
+pub use top::{run, run_within};
+
+#[cfg(test)]
+mod tests;
