@@ -1,4 +1,6 @@
-// Operations: plain and hexagonal matrices with a time mark.
+//! Operations of magnetic point groups: 3×3 matrices with a mark of time reversal, each matrix a signed permutation
+//! matrix (plain) or one of the 24 of 6/mmm on the hexagonal axes (hexagonal). Source: International Tables for
+//! Crystallography D 1.1.
 #![tactic(auto)]
 
 ghost use Rattle.std.specs.Prelude.{◌≡◌, ◌<◌, ◌↔◌, IsTrue};
@@ -8,6 +10,7 @@ ghost use Rattle.tensor_defs.specs.OperationOrder.{comes_before};
 ghost use Rattle.op_matrix.specs.Table.{nth_operation, place};
 ghost use Rattle.tensor_defs.specs.Number.{whole};
 ghost use Rattle.tensor_defs.specs.Symbols.{operation_of};
+ghost use Rattle.op_matrix.specs.Laws.{OrderIsStrict, AreListed, FramesAreClosed};
 ghost use Rattle.op_matrix.specs.View.{entry_of, axis};
 
 mod entry;
@@ -131,7 +134,9 @@ impl Op {
     /// This operation times the other.
     pub fn product(&self, other: &Op) -> Op
         requires { HaveCommonFrame self.now other.now }
-        ensures { IsProduct self.now other.now result }
+        ensures is { IsProduct self.now other.now result }
+        ensures plain { IsPlain self.now → IsPlain other.now → IsPlain result }
+        ensures hexagonal { IsHexagonal self.now → IsHexagonal other.now → IsHexagonal result }
     {
         Op {
             matrix: product_at(self.matrix, other.matrix),
@@ -143,6 +148,8 @@ impl Op {
     pub fn inverse(&self) -> Op
         ensures after { IsProduct self.now result identity }
         ensures ahead { IsProduct result self.now identity }
+        ensures plain { IsPlain self.now → IsPlain result }
+        ensures hexagonal { IsHexagonal self.now → IsHexagonal result }
     {
         Op {
             matrix: inverse_at(self.matrix),
@@ -157,6 +164,21 @@ impl Op {
         self.place() < other.place()
     }
 }
+
+/// The order of operations is a strict total order, and the identity comes before all others.
+pub fn order_is_strict()
+    ensures { OrderIsStrict }
+{}
+
+/// The plain and the hexagonal operations are those at the places below 128, each at one place.
+pub fn operations_are_listed()
+    ensures { AreListed }
+{}
+
+/// Two plain operations have a product, and it is plain; two hexagonal ones likewise.
+pub fn frames_are_closed()
+    ensures { FramesAreClosed }
+{}
 
 /// The operation of a kind about a direction; none for a pair with no position.
 #[tactic(auto, unfolding(crate::specs::Table::operation_at))]

@@ -5,6 +5,7 @@ use Rattle.tensor_defs.specs.Frames.{HaveCommonFrame}
 use Rattle.op_matrix.specs.Table.{operation_at}
 use Rattle.op_matrix.proofs.Products.{product_code, product_at, product_code_below}
 use Rattle.op_matrix.proofs.Hexagonal.{common_of}
+use Rattle.op_matrix.proofs.Order.{plain_closed, hex_closed}
 use Rattle.op_matrix.proofs.Op.product.Goals as goal
 
 mark : (p q : Bool) → not (beq p q) ≡ xor p q
@@ -24,6 +25,14 @@ pub invariant_of-result : goal.invariant_of-result
 unfolding product_code
 invariant_of-result c = subst (λ x. x < 64) (sym c.product_at.ensures) (product_code_below c.self.inside.matrix c.other.inside.matrix c.self.invariant c.other.invariant)
 
-pub returns : goal.returns
+pub returns-clause-is : goal.returns-clause-is
 unfolding product_code
-returns c = right c.self.inside.matrix c.other.inside.matrix c.product_at.result c.self.inside.primed c.other.inside.primed c.args.self.now c.args.other.now c.self.invariant c.other.invariant c.product_at.ensures c.self.view_is c.other.view_is c.requires
+returns-clause-is c = right c.self.inside.matrix c.other.inside.matrix c.product_at.result c.self.inside.primed c.other.inside.primed c.args.self.now c.args.other.now c.self.invariant c.other.invariant c.product_at.ensures c.self.view_is c.other.view_is c.requires
+
+pub returns-clause-plain : goal.returns-clause-plain
+unfolding product_code
+returns-clause-plain c = λ a b. plain_closed c.args.self.now c.args.other.now _ a b (right c.self.inside.matrix c.other.inside.matrix c.product_at.result c.self.inside.primed c.other.inside.primed c.args.self.now c.args.other.now c.self.invariant c.other.invariant c.product_at.ensures c.self.view_is c.other.view_is c.requires)
+
+pub returns-clause-hexagonal : goal.returns-clause-hexagonal
+unfolding product_code
+returns-clause-hexagonal c = λ a b. hex_closed c.args.self.now c.args.other.now _ a b (right c.self.inside.matrix c.other.inside.matrix c.product_at.result c.self.inside.primed c.other.inside.primed c.args.self.now c.args.other.now c.self.invariant c.other.invariant c.product_at.ensures c.self.view_is c.other.view_is c.requires)
