@@ -1,0 +1,4 @@
+pub mod Closing
+pub mod Marked
+pub mod Spans
+pub mod Cosets
