@@ -5,3 +5,4 @@ mod AnswerLemmas
 mod Cuts
 mod Progress
 mod Exits
+pub mod GroupOfTwo

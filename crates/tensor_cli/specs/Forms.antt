@@ -1,11 +1,17 @@
 -- The text of the form of a vector under the group of 2.
+--   KeepsAxis       no operation of a list turns an axis round
 --   count_free      how many components are free
 --   component_rows  a line for each component, from a number on: it is free, or it vanishes
 --   vector_form_text    the answer to form 2 V where these components are free and the others vanish
 -- Source: this project's own texts.
 use Rattle.std.specs.Prelude.{ℕ, ◌+◌, Bool, true, false, List, [], ◌∷◌, ◌++◌, codes}
+use Rattle.std.specs.Prelude.{◌≢◌, Contains}
 use Rattle.std.specs.Fmt.{decimal}
+use Rattle.tensor_defs.specs.Operation.{Axis, Operation, entry, minus_one}
 use Rattle.text_defs.specs.AnswerTexts.{line_of, digits_text, row_text}
+
+abbrev pub KeepsAxis : List Operation → Axis → Type 0
+KeepsAxis hs i = (g : Operation) → Contains hs g → entry g i i ≢ minus_one
 
 abbrev pub count_free : List Bool → ℕ
 count_free [] = 0

@@ -4,9 +4,10 @@ ghost use Rattle.tensor_cli.specs.Reads.{Stands};
 ghost use Rattle.tensor_cli.specs.Stage.{StageAnswer, IsStageRefused, IsQuick, stage_refusal_text};
 ghost use Rattle.tensor_cli.specs.Words.{word_of};
 
-use crate::forms::{free_components, write_vector_form};
+use crate::forms::write_vector_form;
 use crate::memory::{NoMemory, append};
 use crate::refusals::{Refusal, refusal_of};
+use crate::vectors::free_components;
 use std::alloc::Global;
 
 /// How the answer of a line ended.
@@ -41,7 +42,7 @@ pub fn refuse_long(number: u64, out: &mut Vec<u8>) -> Result<(), NoMemory>
 /// Appends the answer of a line or its refusal. A line of more than 1000 bytes is given by its first 1001. After
 /// `NoMemory` the list is as before.
 pub fn answer_line(
-    _alloc: Global,
+    alloc: Global,
     number: u64,
     line: &[u8],
     out: &mut Vec<u8>,
@@ -64,9 +65,12 @@ pub fn answer_line(
             Ok(()) => Ok(LineEnd::Refused),
             Err(no_memory) => Err(no_memory),
         },
-        None => match write_vector_form(free_components(), out) {
-            Ok(()) => Ok(LineEnd::Answered),
+        None => match free_components(alloc) {
             Err(no_memory) => Err(no_memory),
+            Ok(free) => match write_vector_form(free, out) {
+                Ok(()) => Ok(LineEnd::Answered),
+                Err(no_memory) => Err(no_memory),
+            },
         },
     }
 }

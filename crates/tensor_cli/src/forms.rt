@@ -6,13 +6,6 @@ use crate::memory::{NoMemory, append};
 use crate::text::ShortText;
 use itoa::Buffer;
 
-/// Which components of a vector that is invariant under the group of 2 are free: the one along its axis, y.
-pub fn free_components() -> [bool; 3]
-    ensures { result ≡ false ∷ true ∷ false ∷ [] }
-{
-    [false, true, false]
-}
-
 /// The number of free components.
 fn free_count(free: &[bool; 3]) -> u8
     ensures count { result ≡ count_free free.now }

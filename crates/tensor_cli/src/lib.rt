@@ -9,6 +9,7 @@ mod outcome;
 mod refusals;
 mod text;
 mod top;
+mod vectors;
 
 pub use answers::{LineEnd, answer_line, refuse_long};
 pub use memory::NoMemory;

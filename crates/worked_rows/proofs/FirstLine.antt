@@ -29,7 +29,7 @@ no_reversal h = elim (two_only reversal h) [
   | inr e ↦ false_true (sym (ap (λ k. k.primed) e))
 ]
 
-identity_plain : IsPlain identity
+pub identity_plain : IsPlain identity
 identity_plain = record { rows = rows; columns = columns }
   where
     rows : (i : Axis) → OneUnit (entry identity i x1) (entry identity i x2) (entry identity i x3)
@@ -42,7 +42,7 @@ identity_plain = record { rows = rows; columns = columns }
     columns x2 = inr (inl (refl, inl refl, refl))
     columns x3 = inr (inr (refl, refl, inl refl))
 
-two_y_plain : IsPlain two_y
+pub two_y_plain : IsPlain two_y
 two_y_plain = record { rows = rows; columns = columns }
   where
     rows : (i : Axis) → OneUnit (entry two_y i x1) (entry two_y i x2) (entry two_y i x3)

@@ -7,5 +7,5 @@ pub returns-in-Ok-write_vector_form-clause-ok : goal.returns-in-Ok-write_vector_
 returns-in-Ok-write_vector_form-clause-ok c = (
   vector_form_text (false ∷ true ∷ false ∷ []),
   built_answer c.args.number c.args.line.now c.in-None.ensures.0 c.in-None.ensures.1,
-  c.in-Ok-write_vector_form.ensures.ok ∙ ap (λ (fs : List Bool). c.args.out.now.items ++ vector_form_text fs) c.free_components.ensures,
+  c.in-Ok-write_vector_form.ensures.ok ∙ ap (λ (fs : List Bool). c.args.out.now.items ++ vector_form_text fs) c.in-Ok-free_components.ensures,
 )
