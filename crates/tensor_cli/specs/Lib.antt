@@ -2,4 +2,6 @@ pub mod Stage
 pub mod Words
 pub mod Forms
 pub mod Reads
+pub mod Outcomes
+pub mod Stops
 pub mod Runs
