@@ -60,14 +60,14 @@ pub fn answer_line(
         return Ok(LineEnd::Empty);
     }
     match refusal_of(line) {
-        Some(refusal) => match refuse(number, refusal, out) {
-            Ok(()) => Ok(LineEnd::Refused),
-            Err(no_memory) => Err(no_memory),
-        },
-        None => match write_vector_form(free_components(), out) {
-            Ok(()) => Ok(LineEnd::Answered),
-            Err(no_memory) => Err(no_memory),
-        },
+        Some(refusal) => {
+            refuse(number, refusal, out)?;
+            Ok(LineEnd::Refused)
+        }
+        None => {
+            write_vector_form(free_components(), out)?;
+            Ok(LineEnd::Answered)
+        }
     }
 }
 
@@ -89,14 +89,9 @@ pub fn make_answer(
 {
     out.clear();
     if is_long {
-        return match refuse_long(number, out) {
-            Ok(()) => Ok(true),
-            Err(no_memory) => Err(no_memory),
-        };
+        refuse_long(number, out)?;
+        return Ok(true);
     }
-    match answer_line(alloc, number, line, out) {
-        Ok(LineEnd::Refused) => Ok(true),
-        Ok(_) => Ok(false),
-        Err(no_memory) => Err(no_memory),
-    }
+    let end = answer_line(alloc, number, line, out)?;
+    Ok(end == LineEnd::Refused)
 }
