@@ -1,0 +1,5 @@
+pub mod Listings
+pub mod RefusalUnique
+pub mod Forms
+pub mod Elements
+pub mod Lines
