@@ -3,3 +3,5 @@ pub mod RefusalUnique
 pub mod Forms
 pub mod Elements
 pub mod Lines
+pub mod Voigts
+pub mod SameTensors

@@ -1,9 +1,13 @@
 -- Laws of answers, as the contracts of src/ cite them.
 --   OneListing      the group of a symbol has one listing in the order of operations
 --   OneRefusal      at most one refusal applies to a line, at one column
---   OneForm, OneGroup    a request for a form, or for the elements of a group, has one answer
---   OneFormAnswer, OneGroupAnswer    a line that spells such a request has one answer
+--   HasOneAnswer    a request has one answer
+--   OneForm, OneGroup, OneVoigt, OneSame    a request for a form, for the elements of a group, for a Voigt table, or
+--                   whether two groups leave the same tensors, has one answer
+--   LineHasOneAnswer    a line has one answer at each number
+--   OneFormAnswer, OneGroupAnswer    a line that spells a request for a form, or for a group, has one answer
 use Rattle.std.specs.Prelude.{◌≡◌, ℕ, List}
+use Rattle.tensor_defs.specs.declared.Weights.{Weights}
 use Rattle.tensor_defs.specs.Lists.{IsListing}
 use Rattle.tensor_defs.specs.Operation.{Operation}
 use Rattle.tensor_defs.specs.OperationOrder.{comes_before}
@@ -12,7 +16,7 @@ use Rattle.tensor_defs.specs.Symbols.{GroupSymbol}
 use Rattle.text_defs.specs.Answers.{AnswersRequest, IsAnswer}
 use Rattle.text_defs.specs.Refusals.{RefusalWord, Refuses}
 use Rattle.text_defs.specs.Requests.{GroupAt, JahnAt, Request, SpellsRequest}
-use Rattle.text_defs.specs.Requests.Request.{Form, Group}
+use Rattle.text_defs.specs.Requests.Request.{Form, Group, Voigt, Same}
 
 abbrev pub OneListing : Type 0
 OneListing =
@@ -32,6 +36,12 @@ OneForm = (g : GroupAt) (j : JahnAt) → HasOneAnswer (Form g j)
 
 abbrev pub OneGroup : Type 0
 OneGroup = (g : GroupAt) → HasOneAnswer (Group g)
+
+abbrev pub OneVoigt : Type 0
+OneVoigt = (g : GroupAt) (j : JahnAt) (w : Weights) → HasOneAnswer (Voigt g j w)
+
+abbrev pub OneSame : Type 0
+OneSame = (g h : GroupAt) (j : JahnAt) → HasOneAnswer (Same g h j)
 
 -- a line has one answer
 abbrev pub LineHasOneAnswer : List ℕ → Type 0

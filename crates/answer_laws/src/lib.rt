@@ -1,7 +1,7 @@
 //! Laws of answers: at most one refusal applies to a line, and a line has one answer.
 #![tactic(auto)]
 
-ghost use Rattle.answer_laws.specs.Laws.{OneForm, OneFormAnswer, OneGroup, OneGroupAnswer, OneListing, OneRefusal};
+ghost use Rattle.answer_laws.specs.Laws.{OneForm, OneFormAnswer, OneGroup, OneGroupAnswer, OneListing, OneRefusal, OneSame, OneVoigt};
 
 /// The group of a symbol has one listing in the order of operations.
 pub fn one_listing()
@@ -21,6 +21,16 @@ pub fn one_form()
 /// A request for the elements of a group has one answer.
 pub fn one_group()
     ensures { OneGroup }
+{}
+
+/// A request for a Voigt table has one answer.
+pub fn one_voigt()
+    ensures { OneVoigt }
+{}
+
+/// A request whether two groups leave the same tensors has one answer.
+pub fn one_same()
+    ensures { OneSame }
 {}
 
 /// A line that spells a request for a form has one answer.
