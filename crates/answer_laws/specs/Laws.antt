@@ -4,6 +4,7 @@
 --   HasOneAnswer    a request has one answer
 --   OneForm, OneGroup, OneVoigt, OneSame    a request for a form, for the elements of a group, for a Voigt table, or
 --                   whether two groups leave the same tensors, has one answer
+--   OneStates       a request for states has one answer, where the second symbol keeps the rules of symbols
 --   LineHasOneAnswer    a line has one answer at each number
 --   OneFormAnswer, OneGroupAnswer    a line that spells a request for a form, or for a group, has one answer
 use Rattle.std.specs.Prelude.{◌≡◌, ℕ, List}
@@ -12,11 +13,11 @@ use Rattle.tensor_defs.specs.Lists.{IsListing}
 use Rattle.tensor_defs.specs.Operation.{Operation}
 use Rattle.tensor_defs.specs.OperationOrder.{comes_before}
 use Rattle.tensor_defs.specs.Group.{InGroup}
-use Rattle.tensor_defs.specs.Symbols.{GroupSymbol}
+use Rattle.tensor_defs.specs.Symbols.{GroupSymbol, IsGroupSymbol}
 use Rattle.text_defs.specs.Answers.{AnswersRequest, IsAnswer}
 use Rattle.text_defs.specs.Refusals.{RefusalWord, Refuses}
 use Rattle.text_defs.specs.Requests.{GroupAt, JahnAt, Request, SpellsRequest}
-use Rattle.text_defs.specs.Requests.Request.{Form, Group, Voigt, Same}
+use Rattle.text_defs.specs.Requests.Request.{Form, Group, Voigt, States, Same}
 
 abbrev pub OneListing : Type 0
 OneListing =
@@ -42,6 +43,9 @@ OneVoigt = (g : GroupAt) (j : JahnAt) (w : Weights) → HasOneAnswer (Voigt g j 
 
 abbrev pub OneSame : Type 0
 OneSame = (g h : GroupAt) (j : JahnAt) → HasOneAnswer (Same g h j)
+
+abbrev pub OneStates : Type 0
+OneStates = (g f : GroupAt) → IsGroupSymbol f.symbol → HasOneAnswer (States g f)
 
 -- a line has one answer
 abbrev pub LineHasOneAnswer : List ℕ → Type 0
