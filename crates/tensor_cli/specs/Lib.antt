@@ -1,4 +1,5 @@
 pub mod Stage
+pub mod Laws
 pub mod Words
 pub mod Forms
 pub mod Reads
