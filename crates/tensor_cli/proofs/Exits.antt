@@ -1,7 +1,8 @@
 -- What a run leaves where it stops.
-use Rattle.std.proofs.Common.{◌≡◌, inl, inr, ℕ, ◌+◌, ◌<◌, ◌≤◌, Bool, true, false, ◌||◌, ◌⊎◌, if◌then◌else◌, IsTrue, ◌↔◌, List, [], ◌∷◌, ◌++◌, length, take, Some, None, refl, sym, ◌∙◌, ap, subst, arith, append_assoc, length-append}
+use Rattle.std.proofs.Common.{◌≡◌, inl, inr, ℕ, ◌+◌, ◌<◌, ◌≤◌, Bool, true, false, ◌||◌, ◌⊎◌, if◌then◌else◌, IsTrue, Ok, Err, ◌↔◌, List, [], ◌∷◌, ◌++◌, length, take, Some, None, refl, sym, ◌∙◌, ap, subst, arith, append_assoc, length-append}
 use Rattle.std.proofs.lemmas.List.{append-nil, take_at}
 use Rattle.std.specs.List.{AllByRecursion}
+use Rattle.std.specs.declared.result.Result.{Result}
 use Rattle.std.specs.Option.{IfSome}
 use Rattle.std.specs.Io.KnownBytes.{Consumes, Keeps, IsAtEnd}
 use Rattle.tensor_ports.specs.Bytes.{Grows, GrowsInPart}
@@ -14,7 +15,11 @@ use Rattle.tensor_cli.specs.declared.outcome.Outcome.{Outcome}
 use Rattle.tensor_cli.specs.declared.outcome.Outcome.TheVariants.{Answered, SomeRefused, Usage, ReadFault, WriteFault, NoMemory, InputLimit}
 use Rattle.tensor_cli.proofs.LineLemmas.{no_break_append, lines-ended, lines-whole, whole-ended, ended-push}
 use Rattle.tensor_cli.proofs.AnswerLemmas.{answers-push}
-use Rattle.tensor_cli.proofs.Progress.{SoFar, Bytes, consumes_more, consumes_kept, lines-one, all_at, yes_more, no_more, line_stands}
+use Rattle.tensor_cli.specs.declared.outcome.Stop.{Stop}
+use Rattle.tensor_cli.specs.declared.outcome.Stop.TheVariants.{Memory, Read, Write, Limit}
+use Rattle.tensor_cli.specs.Outcomes.{outcome_at}
+use Rattle.tensor_cli.specs.Stops.{StopsAt}
+use Rattle.tensor_cli.proofs.Progress.{SoFar, Break, Bytes, consumes_more, consumes_kept, lines-one, all_at, yes_more, no_more, line_stands}
 
 -- the lines of the input are those that are answered, the next one and others
 pub record Facing {first left before now : Bytes} {total number : ℕ} {skipping refused : Bool} {held : List ℕ} (s : SoFar first left before now total number skipping refused held) (input line : List ℕ) : Type 0 where
@@ -152,51 +157,50 @@ module _ {before now : Bytes} {total number : ℕ} {skipping refused : Bool} {he
         lines = subst Lines (sym lines) such;
       }
 
-  -- the four stops at an answer: at a line that is held with its LF, and at the last one
-  pub memory_at_break : (first left now' : Bytes) (s : SoFar first left before now total number skipping refused held) (line rest : List ℕ) → held ≡ line ++ 10 ∷ rest → HasNoBreak line
-      → ((whole : List ℕ) → Stands skipping line whole → IsQuick whole → ⊥) → now' ≡ now → IfSome first (λ input. LacksMemory input left before now')
-  memory_at_break None left now' s line rest is none slow same = tt
-  memory_at_break (Some input) left now' s line rest is none slow same =
-      subst (λ (n : Bytes). LacksMemory input left before n) (sym same) (lacks_memory input (s.part ++ line) left s (facing_break input left s line rest is none) (slow (s.part ++ line) (line_stands s line)))
+  -- the run stops at an answer: of a line that is held with its LF, or of the last one
+  stops_at : (input line bytes : List ℕ) (left now' : Bytes) (s : SoFar (Some input) left before now total number skipping refused held) → Facing s input line → length s.part ≤ length line → length held ≤ 1001
+      → Stands skipping bytes line → (stop : Stop) → StopsAt stop number skipping bytes now now' → (limit : ℕ) → Leaves limit (outcome_at (Err stop)) input left before now'
+  stops_at input line bytes left now' s facing longer small at Memory stopped limit =
+      subst (λ (n : Bytes). LacksMemory input left before n) (sym stopped.0) (lacks_memory input line left s facing (stopped.1 line at))
+  stops_at input line bytes left now' s facing longer small at Write stopped limit =
+      stops_writing input line left now' s facing longer small stopped.0 (stopped.2 line at) stopped.1
+  stops_at input line bytes left now' s facing longer small at Read stopped limit = absurd stopped
+  stops_at input line bytes left now' s facing longer small at Limit stopped limit = absurd stopped
 
-  pub write_at_break : (first left now' : Bytes) (s : SoFar first left before now total number skipping refused held) (line rest : List ℕ) → held ≡ line ++ 10 ∷ rest → HasNoBreak line → length held ≤ 1001
-      → (answer : List ℕ) → ((whole : List ℕ) → Stands skipping line whole → StageAnswer number whole answer) → GrowsInPart now now' answer → IfSome first (λ input. StopsWriting input left before now')
-  write_at_break None left now' s line rest is none small answer answers grows = tt
-  write_at_break (Some input) left now' s line rest is none small answer answers grows =
-      stops_writing input (s.part ++ line) left now' s (facing_break input left s line rest is none) (omega (arith, length-append s.part line)) small answer (answers (s.part ++ line) (line_stands s line)) grows
+  pub stops_at_break : (ended : Result Bool Stop) (stop : Stop) → ended ≡ Err stop → (limit : ℕ) (first left now' : Bytes) (s : SoFar first left before now total number skipping refused held) (line rest : List ℕ) → Break held line rest → length held ≤ 1001
+      → StopsAt stop number skipping line now now' → IfSome first (λ input. Leaves limit (outcome_at ended) input left before now')
+  stops_at_break ended stop of limit None left now' s line rest at small stopped = tt
+  stops_at_break ended stop of limit (Some input) left now' s line rest at small stopped =
+      subst (λ (e : Result Bool Stop). Leaves limit (outcome_at e) input left before now') (sym of)
+      (stops_at input (s.part ++ line) line left now' s (facing_break input left s line rest at.cut at.none) (omega (arith, length-append s.part line)) small (line_stands s line) stop stopped limit)
 
-  pub memory_at_end : (first left now' : Bytes) (s : SoFar first left before now total number skipping refused held) → HasNoBreak held → 0 < length (s.part ++ held) → IsAtEnd left
-      → ((whole : List ℕ) → Stands skipping held whole → IsQuick whole → ⊥) → now' ≡ now → IfSome first (λ input. LacksMemory input left before now')
-  memory_at_end None left now' s none some end slow same = tt
-  memory_at_end (Some input) left now' s none some end slow same =
-      subst (λ (n : Bytes). LacksMemory input left before n) (sym same) (lacks_memory input (s.part ++ held) left s (facing_last input left s none some end) (slow (s.part ++ held) (line_stands s held)))
-
-  pub write_at_end : (first left now' : Bytes) (s : SoFar first left before now total number skipping refused held) → HasNoBreak held → 0 < length (s.part ++ held) → IsAtEnd left → length held ≤ 1001
-      → (answer : List ℕ) → ((whole : List ℕ) → Stands skipping held whole → StageAnswer number whole answer) → GrowsInPart now now' answer → IfSome first (λ input. StopsWriting input left before now')
-  write_at_end None left now' s none some end small answer answers grows = tt
-  write_at_end (Some input) left now' s none some end small answer answers grows =
-      stops_writing input (s.part ++ held) left now' s (facing_last input left s none some end) (omega (arith, length-append s.part held)) small answer (answers (s.part ++ held) (line_stands s held)) grows
+  pub stops_at_end : (ended : Result Bool Stop) (stop : Stop) → ended ≡ Err stop → (limit : ℕ) (first left now' : Bytes) (s : SoFar first left before now total number skipping refused held) → HasNoBreak held → 0 < length (s.part ++ held) → IsAtEnd left → length held ≤ 1001
+      → StopsAt stop number skipping held now now' → IfSome first (λ input. Leaves limit (outcome_at ended) input left before now')
+  stops_at_end ended stop of limit None left now' s none some end small stopped = tt
+  stops_at_end ended stop of limit (Some input) left now' s none some end small stopped =
+      subst (λ (e : Result Bool Stop). Leaves limit (outcome_at e) input left before now') (sym of)
+      (stops_at input (s.part ++ held) held left now' s (facing_last input left s none some end) (omega (arith, length-append s.part held)) small (line_stands s held) stop stopped limit)
 
 -- ---- the outcome at the end
 
-choose : (refused : Bool) (outcome : Outcome) → outcome ≡ (if refused then SomeRefused else Answered) → (P : Outcome → Type 0) → (refused ≡ true → P SomeRefused) → (refused ≡ false → P Answered) → P outcome
-choose true outcome is P at_true at_false = subst P (sym is) (at_true refl)
-choose false outcome is P at_true at_false = subst P (sym is) (at_false refl)
+choose : (refused : Bool) (P : Outcome → Type 0) → (refused ≡ true → P SomeRefused) → (refused ≡ false → P Answered) → P (outcome_at (Ok refused))
+choose true P at_true at_false = at_true refl
+choose false P at_true at_false = at_false refl
 
 module _ {first left before now : Bytes} {total number : ℕ} {skipping refused : Bool} {held : List ℕ} (s : SoFar first left before now total number skipping refused held) (limit : ℕ) (fits : total ≤ limit) (end : IsAtEnd left) where
-  pub finish_end : skipping ≡ false → held ≡ [] → (outcome : Outcome) → outcome ≡ (if refused then SomeRefused else Answered) → IfSome first (λ input. Leaves limit outcome input left before now)
-  finish_end short empty outcome is =
+  pub finish_end : skipping ≡ false → held ≡ [] → IfSome first (λ input. Leaves limit (outcome_at (Ok refused)) input left before now)
+  finish_end short empty =
       let none : s.part ++ held ≡ [] = ap (λ (l : List ℕ). l ++ held) (s.short short) ∙ empty in
-      choose refused outcome is (λ o. IfSome first (λ input. Leaves limit o input left before now))
+      choose refused (λ o. IfSome first (λ input. Leaves limit o input left before now))
       (λ yes. ends limit first left SomeLineRefused s none fits end (s.yes yes))
       (λ no. ends limit first left NoLineRefused s none fits end (s.no no))
 
   pub finish_line : (now' : Bytes) (one : Bool) → HasNoBreak held → 0 < length (s.part ++ held) → (answer : List ℕ) → ((whole : List ℕ) → Stands skipping held whole → StageAnswer number whole answer) → ((whole : List ℕ) → Stands skipping held whole → (IsTrue one ↔ IsStageRefused whole)) → Grows now now' answer
-      → (outcome : Outcome) → outcome ≡ (if refused || one then SomeRefused else Answered) → IfSome first (λ input. Leaves limit outcome input left before now')
-  finish_line now' one none some answer answers refuses grows outcome is =
+      → IfSome first (λ input. Leaves limit (outcome_at (Ok (refused || one))) input left before now')
+  finish_line now' one none some answer answers refuses grows =
       let whole = s.part ++ held in
       let at = line_stands s held in
-      choose (refused || one) outcome is (λ o. IfSome first (λ input. Leaves limit o input left before now'))
+      choose (refused || one) (λ o. IfSome first (λ input. Leaves limit o input left before now'))
       (λ yes. ends_in_line limit first left now' SomeLineRefused s none some fits end answer (answers whole at) grows (yes_more refused one s.lines whole s.yes (refuses whole at) yes))
       (λ no. ends_in_line limit first left now' NoLineRefused s none some fits end answer (answers whole at) grows (no_more refused one s.lines whole s.no (refuses whole at) no))
 
@@ -205,20 +209,47 @@ pub some_left : {first left before now : Bytes} {total number : ℕ} {skipping r
 some_left {held = held} s (inl skips) = omega (arith, s.long skips, length-append s.part held)
 some_left {held = held} s (inr some) = omega (arith, some, length-append s.part held)
 
--- one outcome of the table
-pub leaves_at : (first : Bytes) (limit : ℕ) (left before now : Bytes) (outcome one : Outcome) → outcome ≡ one → IfSome first (λ input. Leaves limit outcome input left before now) → IfSome first (λ input. Leaves limit one input left before now)
-leaves_at first limit left before now outcome one is leaves = subst (λ (o : Outcome). IfSome first (λ input. Leaves limit o input left before now)) is leaves
+-- one outcome of the table, of the run that ended so
+pub leaves_at : (first : Bytes) (limit : ℕ) (left before now : Bytes) (outcome : Outcome) (ended : Result Bool Stop) → outcome ≡ outcome_at ended → (one : Outcome) → outcome ≡ one → IfSome first (λ input. Leaves limit (outcome_at ended) input left before now)
+    → IfSome first (λ input. Leaves limit one input left before now)
+leaves_at first limit left before now outcome ended of one is leaves =
+    subst (λ (o : Outcome). IfSome first (λ input. Leaves limit o input left before now)) (sym of ∙ is) leaves
 
 -- where nothing failed
-complete_one : (limit : ℕ) (outcome : Outcome) (input : List ℕ) (left before now : Bytes) → (outcome ≡ ReadFault → ⊥) → (outcome ≡ WriteFault → ⊥) → Leaves limit outcome input left before now → IsComplete outcome limit input
-complete_one limit Answered input left before now read write leaves = leaves.within
-complete_one limit SomeRefused input left before now read write leaves = leaves.within
-complete_one limit Usage input left before now read write leaves = leaves
-complete_one limit ReadFault input left before now read write leaves = read refl
-complete_one limit WriteFault input left before now read write leaves = write refl
-complete_one limit NoMemory input left before now read write leaves = tt
-complete_one limit InputLimit input left before now read write leaves = leaves.past
+complete_one : (limit : ℕ) (ended : Result Bool Stop) (input : List ℕ) (left before now : Bytes) → (ended ≡ Err Read → ⊥) → (ended ≡ Err Write → ⊥) → Leaves limit (outcome_at ended) input left before now → IsComplete (outcome_at ended) limit input
+complete_one limit (Ok true) input left before now read write leaves = leaves.within
+complete_one limit (Ok false) input left before now read write leaves = leaves.within
+complete_one limit (Err Memory) input left before now read write leaves = tt
+complete_one limit (Err Read) input left before now read write leaves = absurd (read refl)
+complete_one limit (Err Write) input left before now read write leaves = absurd (write refl)
+complete_one limit (Err Limit) input left before now read write leaves = leaves.past
 
-pub complete : (first : Bytes) (limit : ℕ) (outcome : Outcome) (left before now : Bytes) → (outcome ≡ ReadFault → ⊥) → (outcome ≡ WriteFault → ⊥) → IfSome first (λ input. Leaves limit outcome input left before now) → IfSome first (λ input. IsComplete outcome limit input)
-complete None limit outcome left before now read write leaves = tt
-complete (Some input) limit outcome left before now read write leaves = complete_one limit outcome input left before now read write leaves
+pub complete : (first : Bytes) (limit : ℕ) (outcome : Outcome) (ended : Result Bool Stop) → outcome ≡ outcome_at ended → (left before now : Bytes) → (ended ≡ Err Read → ⊥) → (ended ≡ Err Write → ⊥) → IfSome first (λ input. Leaves limit (outcome_at ended) input left before now) → IfSome first (λ input. IsComplete outcome limit input)
+complete None limit outcome ended of left before now read write leaves = tt
+complete (Some input) limit outcome ended of left before now read write leaves =
+    subst (λ (o : Outcome). IsComplete o limit input) (sym of) (complete_one limit ended input left before now read write leaves)
+
+-- a fault is the cause of its outcome
+pub read_fault : (ended : Result Bool Stop) → outcome_at ended ≡ ReadFault → ended ≡ Err Read
+read_fault (Ok true) is = cc
+read_fault (Ok false) is = cc
+read_fault (Err Memory) is = cc
+read_fault (Err Read) is = refl
+read_fault (Err Write) is = cc
+read_fault (Err Limit) is = cc
+
+pub write_fault : (ended : Result Bool Stop) → outcome_at ended ≡ WriteFault → ended ≡ Err Write
+write_fault (Ok true) is = cc
+write_fault (Ok false) is = cc
+write_fault (Err Memory) is = cc
+write_fault (Err Read) is = cc
+write_fault (Err Write) is = refl
+write_fault (Err Limit) is = cc
+
+pub never_usage : (ended : Result Bool Stop) → outcome_at ended ≡ Usage → ⊥
+never_usage (Ok true) is = cc
+never_usage (Ok false) is = cc
+never_usage (Err Memory) is = cc
+never_usage (Err Read) is = cc
+never_usage (Err Write) is = cc
+never_usage (Err Limit) is = cc

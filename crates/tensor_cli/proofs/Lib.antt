@@ -1,5 +1,6 @@
 mod LineLemmas
 mod LineAnswers
+mod StageUnique
 mod FormRows
 mod AnswerLemmas
 mod Cuts

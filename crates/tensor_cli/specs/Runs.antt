@@ -1,6 +1,5 @@
 -- What a run leaves, by its outcome. `left` is what the source tells at return; `before` and `now` are what the
 -- sink tells at entry and at return.
---   status_of       the exit status of an outcome
 --   Answers         what was written grew by exactly the answers of these lines
 --   IsAnswered      the input was read to its end, and every line was answered
 --   StopsReading, StopsWriting, PassesLimit, LacksMemory    what stands after the other outcomes
@@ -17,15 +16,6 @@ use Rattle.tensor_cli.specs.Stage.{StageAnswer, IsStageRefused, IsQuick}
 use Rattle.tensor_cli.specs.declared.outcome.Outcome.{Outcome}
 use Rattle.tensor_cli.specs.declared.outcome.Outcome.TheVariants.{Answered, SomeRefused, Usage, ReadFault}
 use Rattle.tensor_cli.specs.declared.outcome.Outcome.TheVariants.{WriteFault, NoMemory, InputLimit}
-
-abbrev pub status_of : Outcome → ℕ
-status_of Answered = 0
-status_of SomeRefused = 1
-status_of Usage = 2
-status_of ReadFault = 3
-status_of WriteFault = 4
-status_of NoMemory = 5
-status_of InputLimit = 6
 
 -- the first of the lines is line 1
 abbrev pub Answers : Option (List ℕ) → Option (List ℕ) → List (List ℕ) → Type 0

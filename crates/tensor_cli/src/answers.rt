@@ -61,17 +61,15 @@ pub fn answer_line(
         return Ok(LineEnd::Empty);
     }
     match refusal_of(line) {
-        Some(refusal) => match refuse(number, refusal, out) {
-            Ok(()) => Ok(LineEnd::Refused),
-            Err(no_memory) => Err(no_memory),
-        },
-        None => match free_components(alloc) {
-            Err(no_memory) => Err(no_memory),
-            Ok(free) => match write_vector_form(free, out) {
-                Ok(()) => Ok(LineEnd::Answered),
-                Err(no_memory) => Err(no_memory),
-            },
-        },
+        Some(refusal) => {
+            refuse(number, refusal, out)?;
+            Ok(LineEnd::Refused)
+        }
+        None => {
+            let free = free_components(alloc)?;
+            write_vector_form(free, out)?;
+            Ok(LineEnd::Answered)
+        }
     }
 }
 
@@ -93,14 +91,9 @@ pub fn make_answer(
 {
     out.clear();
     if is_long {
-        return match refuse_long(number, out) {
-            Ok(()) => Ok(true),
-            Err(no_memory) => Err(no_memory),
-        };
+        refuse_long(number, out)?;
+        return Ok(true);
     }
-    match answer_line(alloc, number, line, out) {
-        Ok(LineEnd::Refused) => Ok(true),
-        Ok(_) => Ok(false),
-        Err(no_memory) => Err(no_memory),
-    }
+    let end = answer_line(alloc, number, line, out)?;
+    Ok(end == LineEnd::Refused)
 }

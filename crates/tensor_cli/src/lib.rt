@@ -4,6 +4,7 @@
 mod answers;
 mod buffer;
 mod forms;
+mod laws;
 mod memory;
 mod outcome;
 mod refusals;
@@ -12,6 +13,7 @@ mod top;
 mod vectors;
 
 pub use answers::{LineEnd, answer_line, refuse_long};
+pub use laws::{one_stage_answer, one_stage_refusal};
 pub use memory::NoMemory;
 pub use outcome::Outcome;
 pub use top::{run, run_within};

@@ -1,6 +1,6 @@
 //! How a run ends.
-ghost use Rattle.std.specs.Prelude.{◌≡◌, if◌then◌else◌};
-ghost use Rattle.tensor_cli.specs.Runs.{status_of};
+ghost use Rattle.std.specs.Prelude.{◌≡◌};
+ghost use Rattle.tensor_cli.specs.Outcomes.{outcome_at, status_of};
 
 /// How a run ended.
 #[derive(Clone, Copy, Debug, PartialEq, Eq, Drop)]
@@ -31,20 +31,25 @@ impl Outcome {
     }
 }
 
-/// Why an answer was not written.
+/// Why a run stops before the end of the input.
 #[derive(Clone, Copy, Debug, PartialEq, Eq, Drop)]
 pub enum Stop {
     Memory,
+    Read,
     Write,
+    Limit,
 }
 
-/// The outcome at the end of the input.
-pub fn outcome_of(refused: bool) -> Outcome
-    ensures { result ≡ (if refused then Outcome.SomeRefused else Outcome.Answered) }
+/// The outcome of a run: it came to the end, and tells whether a line was refused, or it stopped before.
+pub fn outcome_of(ended: Result<bool, Stop>) -> Outcome
+    ensures { result ≡ outcome_at ended }
 {
-    if refused {
-        Outcome::SomeRefused
-    } else {
-        Outcome::Answered
+    match ended {
+        Ok(false) => Outcome::Answered,
+        Ok(true) => Outcome::SomeRefused,
+        Err(Stop::Memory) => Outcome::NoMemory,
+        Err(Stop::Read) => Outcome::ReadFault,
+        Err(Stop::Write) => Outcome::WriteFault,
+        Err(Stop::Limit) => Outcome::InputLimit,
     }
 }

@@ -1,10 +1,12 @@
 //! The top call.
-ghost use Rattle.std.specs.Prelude.{◌≡◌, ◌↔◌, ◌+◌, ◌<◌, ◌≤◌, ◌++◌, [], List, ℕ, length, IsTrue, IfOk, OnErr, IsErrOf, vec_capacity, true, false, MatchBool, ◌⊎◌};
+ghost use Rattle.std.specs.Prelude.{◌≡◌, ◌↔◌, ◌+◌, ◌<◌, ◌≤◌, ◌++◌, [], List, ℕ, length, IsTrue, IfOk, IfErr, IsErrOf, vec_capacity, true, false, MatchBool, ◌⊎◌};
 ghost use Rattle.std.specs.Option.{IfSome};
-ghost use Rattle.tensor_ports.specs.Bytes.{Grows, GrowsInPart};
+ghost use Rattle.tensor_ports.specs.Bytes.{Grows};
 ghost use Rattle.tensor_ports.specs.Causes.{Rose};
 ghost use Rattle.tensor_cli.specs.Reads.{Stands};
-ghost use Rattle.tensor_cli.specs.Stage.{StageAnswer, IsStageRefused, IsQuick};
+ghost use Rattle.tensor_cli.specs.Outcomes.{outcome_at};
+ghost use Rattle.tensor_cli.specs.Stage.{StageAnswer, IsStageRefused};
+ghost use Rattle.tensor_cli.specs.Stops.{StopsAt};
 ghost use Rattle.tensor_cli.specs.Runs.{Leaves, IsComplete, IsAnswered, SomeLineRefused, NoLineRefused, StopsReading, StopsWriting, PassesLimit, LacksMemory};
 
 use crate::answers::make_answer;
@@ -30,10 +32,7 @@ fn write_answer<O: Sink>(
     ensures ok { IfOk result (λ refused. (answer : List ℕ) × Grows (O.written sink.old) (O.written sink.new) answer
         × ((whole : List ℕ) → Stands is_long line.now whole → StageAnswer number whole answer)
         × ((whole : List ℕ) → Stands is_long line.now whole → (IsTrue refused ↔ IsStageRefused whole))) }
-    ensures memory { IsErrOf result Stop.Memory → (O.written sink.new ≡ O.written sink.old)
-        × ((whole : List ℕ) → Stands is_long line.now whole → IsQuick whole → ⊥) }
-    ensures write { IsErrOf result Stop.Write → (answer : List ℕ) × GrowsInPart (O.written sink.old) (O.written sink.new) answer
-        × ((whole : List ℕ) → Stands is_long line.now whole → StageAnswer number whole answer) }
+    ensures err { IfErr result (λ stop. StopsAt stop number is_long line.now (O.written sink.old) (O.written sink.new)) }
     ensures later { O.faults sink.old ≤ O.faults sink.new }
     ensures rose { IsErrOf result Stop.Write → Rose (O.faults sink.old) (O.faults sink.new) }
     ensures room { 64 ≤ vec_capacity out.new }
@@ -54,25 +53,24 @@ fn is_between(skipping: bool, held: &[u8]) -> bool
     !skipping && held.is_empty()
 }
 
-/// Answers the lines of the source.
+/// Answers the lines of the source. At the end of the input it tells whether a line was refused.
 fn answer_all<I: Source, O: Sink>(
     alloc: Global,
     limit: u64,
     source: &mut I,
     sink: &mut O,
-) -> Outcome
+) -> Result<bool, Stop>
     requires { limit ≤ 4294967296 }
     ensures leaves { IfSome (I.left source.old) (λ input.
-        Leaves limit result input (I.left source.new) (O.written sink.old) (O.written sink.new)) }
-    ensures read { result ≡ Outcome.ReadFault → Rose (I.faults source.old) (I.faults source.new) }
-    ensures write { result ≡ Outcome.WriteFault → Rose (O.faults sink.old) (O.faults sink.new) }
-    ensures usage { result ≡ Outcome.Usage → ⊥ }
+        Leaves limit (outcome_at result) input (I.left source.new) (O.written sink.old) (O.written sink.new)) }
+    ensures read { IsErrOf result Stop.Read → Rose (I.faults source.old) (I.faults source.new) }
+    ensures write { IsErrOf result Stop.Write → Rose (O.faults sink.old) (O.faults sink.new) }
 {
     let Ok(mut buffer) = LineBuffer::new(alloc) else {
-        return Outcome::NoMemory;
+        return Err(Stop::Memory);
     };
     let Ok(mut out) = Vec::with_capacity(alloc, REFUSAL) else {
-        return Outcome::NoMemory;
+        return Err(Stop::Memory);
     };
     let mut total = 0u64;
     let mut number = 1u64;
@@ -81,11 +79,8 @@ fn answer_all<I: Source, O: Sink>(
     'reading: loop {
         match first_break(buffer.held()) {
             Some(at) => {
-                match write_answer(alloc, number, skipping, buffer.front(at), &mut out, sink) {
-                    Ok(one) => refused |= one,
-                    Err(Stop::Memory) => return Outcome::NoMemory,
-                    Err(Stop::Write) => return Outcome::WriteFault,
-                }
+                let line = buffer.front(at);
+                refused |= write_answer(alloc, number, skipping, line, &mut out, sink)?;
                 buffer.remove(at + 1);
                 number += 1;
                 skipping = false;
@@ -93,19 +88,16 @@ fn answer_all<I: Source, O: Sink>(
             None => {
                 skipping |= buffer.let_go();
                 match read_more(&mut buffer, source, limit - total) {
-                    Err(_) => return Outcome::ReadFault,
-                    Ok(More::Past) => return Outcome::InputLimit,
+                    Err(_) => return Err(Stop::Read),
+                    Ok(More::Past) => return Err(Stop::Limit),
                     Ok(More::Bytes(count)) => total += count as u64,
                     Ok(More::End) => {
                         let held = buffer.held();
                         if is_between(skipping, held) {
-                            return outcome_of(refused);
+                            return Ok(refused);
                         }
-                        match write_answer(alloc, number, skipping, held, &mut out, sink) {
-                            Ok(one) => return outcome_of(refused | one),
-                            Err(Stop::Memory) => return Outcome::NoMemory,
-                            Err(Stop::Write) => return Outcome::WriteFault,
-                        }
+                        let last = write_answer(alloc, number, skipping, held, &mut out, sink)?;
+                        return Ok(refused | last);
                     }
                 }
             }
@@ -146,7 +138,7 @@ pub fn run_within<I: Source, O: Sink>(
     ensures complete { (Rose (I.faults source.old) (I.faults source.new) → ⊥) → (Rose (O.faults sink.old) (O.faults sink.new) → ⊥)
         → IfSome (I.left source.old) (λ input. IsComplete result limit input) }
 {
-    answer_all(alloc, limit, source, sink)
+    outcome_of(answer_all(alloc, limit, source, sink))
 }
 
 /// The most bytes of an input: 2^32.
@@ -170,5 +162,5 @@ pub fn run<I: Source, O: Sink>(
     if !words.is_empty() {
         return Outcome::Usage;
     }
-    answer_all(alloc, LIMIT, source, sink)
+    outcome_of(answer_all(alloc, LIMIT, source, sink))
 }

@@ -1,0 +1,10 @@
+pub mod Listings
+pub mod RefusalUnique
+pub mod Forms
+pub mod Elements
+pub mod Lines
+pub mod Voigts
+pub mod SameTensors
+pub mod Matrices
+pub mod Groups
+pub mod DomainStates

@@ -1,0 +1,58 @@
+-- Laws of answers, as the contracts of src/ cite them.
+--   OneListing      the group of a symbol has one listing in the order of operations
+--   OneRefusal      at most one refusal applies to a line, at one column
+--   HasOneAnswer    a request has one answer
+--   OneForm, OneGroup, OneVoigt, OneSame    a request for a form, for the elements of a group, for a Voigt table, or
+--                   whether two groups leave the same tensors, has one answer
+--   OneStates       a request for states has one answer, where the second symbol keeps the rules of symbols
+--   LineHasOneAnswer    a line has one answer at each number
+--   OneFormAnswer, OneGroupAnswer    a line that spells a request for a form, or for a group, has one answer
+use Rattle.std.specs.Prelude.{◌≡◌, ℕ, List}
+use Rattle.tensor_defs.specs.declared.Weights.{Weights}
+use Rattle.tensor_defs.specs.Lists.{IsListing}
+use Rattle.tensor_defs.specs.Operation.{Operation}
+use Rattle.tensor_defs.specs.OperationOrder.{comes_before}
+use Rattle.tensor_defs.specs.Group.{InGroup}
+use Rattle.tensor_defs.specs.Symbols.{GroupSymbol, IsGroupSymbol}
+use Rattle.text_defs.specs.Answers.{AnswersRequest, IsAnswer}
+use Rattle.text_defs.specs.Refusals.{RefusalWord, Refuses}
+use Rattle.text_defs.specs.Requests.{GroupAt, JahnAt, Request, SpellsRequest}
+use Rattle.text_defs.specs.Requests.Request.{Form, Group, Voigt, States, Same}
+
+abbrev pub OneListing : Type 0
+OneListing =
+    (t : GroupSymbol) (gs hs : List Operation) → IsListing comes_before (InGroup t) gs →
+    IsListing comes_before (InGroup t) hs → gs ≡ hs
+
+abbrev pub OneRefusal : Type 0
+OneRefusal =
+    (line : List ℕ) (v w : RefusalWord) (c d : ℕ) → Refuses line v c → Refuses line w d → (v ≡ w) × (c ≡ d)
+
+-- a request has one answer
+abbrev pub HasOneAnswer : Request → Type 0
+HasOneAnswer q = (a b : List ℕ) → AnswersRequest q a → AnswersRequest q b → a ≡ b
+
+abbrev pub OneForm : Type 0
+OneForm = (g : GroupAt) (j : JahnAt) → HasOneAnswer (Form g j)
+
+abbrev pub OneGroup : Type 0
+OneGroup = (g : GroupAt) → HasOneAnswer (Group g)
+
+abbrev pub OneVoigt : Type 0
+OneVoigt = (g : GroupAt) (j : JahnAt) (w : Weights) → HasOneAnswer (Voigt g j w)
+
+abbrev pub OneSame : Type 0
+OneSame = (g h : GroupAt) (j : JahnAt) → HasOneAnswer (Same g h j)
+
+abbrev pub OneStates : Type 0
+OneStates = (g f : GroupAt) → IsGroupSymbol f.symbol → HasOneAnswer (States g f)
+
+-- a line has one answer
+abbrev pub LineHasOneAnswer : List ℕ → Type 0
+LineHasOneAnswer line = (number : ℕ) (a b : List ℕ) → IsAnswer number line a → IsAnswer number line b → a ≡ b
+
+abbrev pub OneFormAnswer : Type 0
+OneFormAnswer = (line : List ℕ) (g : GroupAt) (j : JahnAt) → SpellsRequest line (Form g j) → LineHasOneAnswer line
+
+abbrev pub OneGroupAnswer : Type 0
+OneGroupAnswer = (line : List ℕ) (g : GroupAt) → SpellsRequest line (Group g) → LineHasOneAnswer line
