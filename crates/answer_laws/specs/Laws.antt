@@ -4,7 +4,8 @@
 --   HasOneAnswer    a request has one answer
 --   OneForm, OneGroup, OneVoigt, OneSame    a request for a form, for the elements of a group, for a Voigt table, or
 --                   whether two groups leave the same tensors, has one answer
---   OneStates       a request for states has one answer, where the second symbol keeps the rules of symbols
+--   OneStates, OneDiffer    a request for states, or for the components that distinguish them, has one answer, where
+--                   the second symbol keeps the rules of symbols
 --   LineHasOneAnswer    a line has one answer at each number
 --   OneFormAnswer, OneGroupAnswer    a line that spells a request for a form, or for a group, has one answer
 use Rattle.std.specs.Prelude.{◌≡◌, ℕ, List}
@@ -17,7 +18,7 @@ use Rattle.tensor_defs.specs.Symbols.{GroupSymbol, IsGroupSymbol}
 use Rattle.text_defs.specs.Answers.{AnswersRequest, IsAnswer}
 use Rattle.text_defs.specs.Refusals.{RefusalWord, Refuses}
 use Rattle.text_defs.specs.Requests.{GroupAt, JahnAt, Request, SpellsRequest}
-use Rattle.text_defs.specs.Requests.Request.{Form, Group, Voigt, States, Same}
+use Rattle.text_defs.specs.Requests.Request.{Form, Group, Voigt, States, Differ, Same}
 
 abbrev pub OneListing : Type 0
 OneListing =
@@ -46,6 +47,9 @@ OneSame = (g h : GroupAt) (j : JahnAt) → HasOneAnswer (Same g h j)
 
 abbrev pub OneStates : Type 0
 OneStates = (g f : GroupAt) → IsGroupSymbol f.symbol → HasOneAnswer (States g f)
+
+abbrev pub OneDiffer : Type 0
+OneDiffer = (g f : GroupAt) (j : JahnAt) → IsGroupSymbol f.symbol → HasOneAnswer (Differ g f j)
 
 -- a line has one answer
 abbrev pub LineHasOneAnswer : List ℕ → Type 0

@@ -1,7 +1,7 @@
 //! Laws of answers: at most one refusal applies to a line, and a line has one answer.
 #![tactic(auto)]
 
-ghost use Rattle.answer_laws.specs.Laws.{OneForm, OneFormAnswer, OneGroup, OneGroupAnswer, OneListing, OneRefusal, OneSame, OneStates, OneVoigt};
+ghost use Rattle.answer_laws.specs.Laws.{OneDiffer, OneForm, OneFormAnswer, OneGroup, OneGroupAnswer, OneListing, OneRefusal, OneSame, OneStates, OneVoigt};
 
 /// The group of a symbol has one listing in the order of operations.
 pub fn one_listing()
@@ -36,6 +36,11 @@ pub fn one_same()
 /// A request for domain states has one answer.
 pub fn one_states()
     ensures { OneStates }
+{}
+
+/// A request for the components that distinguish domain states has one answer.
+pub fn one_differ()
+    ensures { OneDiffer }
 {}
 
 /// A line that spells a request for a form has one answer.
