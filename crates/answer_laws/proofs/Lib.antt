@@ -10,3 +10,5 @@ pub mod Groups
 pub mod DomainStates
 pub mod Roots
 pub mod Differences
+pub mod Classes
+pub mod Classical
