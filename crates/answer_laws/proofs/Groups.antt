@@ -2,7 +2,7 @@
 --   IsGroup             the identity, products and inverses of its members are members
 --   one_times, times_one    the identity times an operation, and an operation times the identity
 --   assoc_back          (g·h)·k where g·(h·k) is known
---   symbol_group        the group of a symbol is a group
+--   symbol_group, symbol_framed    the group of a symbol is a group, and lies in one frame
 --   spelled_symbol      a text spells symbols that keep the rules
 use Rattle.std.proofs.Common.{◌≡◌, ℕ, zero, suc, ◌==◌, ◌%◌, ◌/◌, ◌<◌, ◌≤◌, Bool, true, false, cond, List, [], ◌∷◌, ◌++◌}
 use Rattle.std.proofs.Common.{refl, ap, sym, ◌∙◌, arith, subst, inl, inr, lit<, lit≤}
@@ -309,12 +309,21 @@ frame_of t h =
     by_test true false e is t = (false, t)
     by_test false b e is t = absurd cc
 
+symbol_turns : (t : GroupSymbol) (k : Bool) → all_fit k t.setting (parent_operators t.parent) ≡ true → (g : Operation) →
+    Contains (generators t) g → IsTurn k g
+symbol_turns t k e g c = each_held (IsTurn k) (generators t) (generators_fit k t e) g c
+
 -- the group of a symbol is a group
 pub symbol_group : (t : GroupSymbol) → IsGroupSymbol t → IsGroup (InGroup t)
 symbol_group t h =
-    let frame = frame_of t h in
-    generated_group frame.0 (λ g. Contains (generators t) g)
-    (λ g c. each_held (IsTurn frame.0) (generators t) (generators_fit frame.0 t frame.1) g c)
+    let k = frame_of t h in
+    generated_group k.0 (λ g. Contains (generators t) g) (symbol_turns t k.0 k.1)
+
+-- ... in one frame
+pub symbol_framed : (t : GroupSymbol) → IsGroupSymbol t → (k : Bool) × ((g : Operation) → InGroup t g → InFrame k g)
+symbol_framed t h =
+    let k = frame_of t h in
+    (k.0, within_frame k.0 (λ g. Contains (generators t) g) (symbol_turns t k.0 k.1))
 
 grey_symbol : IsGroupSymbol grey_one
 unfolding parent_operators

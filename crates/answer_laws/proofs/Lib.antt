@@ -8,3 +8,7 @@ pub mod SameTensors
 pub mod Matrices
 pub mod Groups
 pub mod DomainStates
+pub mod Roots
+pub mod Differences
+pub mod Classes
+pub mod Classical

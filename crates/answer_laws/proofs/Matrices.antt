@@ -74,7 +74,7 @@ same_row_true r s t =
       third = same_entry_true r.third s.third q.1 i;
     }
 
-same_matrix_true : (g k : Operation) → same_matrix g k ≡ true → k ≡ marked k.primed g
+pub same_matrix_true : (g k : Operation) → same_matrix g k ≡ true → k ≡ marked k.primed g
 same_matrix_true g k t =
     let p = both (same_row g.row_1 k.row_1) (cond (same_row g.row_2 k.row_2) (same_row g.row_3 k.row_3) false) t in
     let q = both (same_row g.row_2 k.row_2) (same_row g.row_3 k.row_3) p.1 in
@@ -89,21 +89,21 @@ abbrev pub is_in : List Operation → Operation → Bool
 is_in [] g = false
 is_in (k ∷ ks) g = cond (same_matrix k g) true (is_in ks g)
 
-abbrev for_all : List Operation → (Operation → Bool) → Bool
+abbrev pub for_all : List Operation → (Operation → Bool) → Bool
 for_all [] p = true
 for_all (g ∷ gs) p = cond (p g) (for_all gs p) false
 
-is_in_marked : (L : List Operation) (m : Bool) (g : Operation) → is_in L (marked m g) ≡ is_in L g
+pub is_in_marked : (L : List Operation) (m : Bool) (g : Operation) → is_in L (marked m g) ≡ is_in L g
 is_in_marked [] m g = refl
 is_in_marked (k ∷ ks) m g = λ i. cond (same_matrix k g) true (is_in_marked ks m g i)
 
 -- what is tested of each matrix of a list holds of a matrix with the same entries
-record Tested (p : Operation → Bool) (g : Operation) : Type 0 where
-  listed : Operation
-  passes : p listed ≡ true
-  same : g ≡ marked g.primed listed
+pub record Tested (p : Operation → Bool) (g : Operation) : Type 0 where
+  pub listed : Operation
+  pub passes : p listed ≡ true
+  pub same : g ≡ marked g.primed listed
 
-from_test : (L : List Operation) (p : Operation → Bool) → for_all L p ≡ true → (g : Operation) → is_in L g ≡ true →
+pub from_test : (L : List Operation) (p : Operation → Bool) → for_all L p ≡ true → (g : Operation) → is_in L g ≡ true →
     Tested p g
 from_test [] p t g e = absurd cc
 from_test (k ∷ ks) p t g e = by_case (same_matrix k g) refl (from_test ks p (both (p k) (for_all ks p) t).1 g) e

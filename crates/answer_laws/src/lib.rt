@@ -1,7 +1,7 @@
 //! Laws of answers: at most one refusal applies to a line, and a line has one answer.
 #![tactic(auto)]
 
-ghost use Rattle.answer_laws.specs.Laws.{OneForm, OneFormAnswer, OneGroup, OneGroupAnswer, OneListing, OneRefusal, OneSame, OneStates, OneVoigt};
+ghost use Rattle.answer_laws.specs.Laws.{OneAnswer, OneDiffer, OneForm, OneFormAnswer, OneGroup, OneGroupAnswer, OneListing, OnePairs, OneRefusal, OneSame, OneStates, OneVoigt};
 
 /// The group of a symbol has one listing in the order of operations.
 pub fn one_listing()
@@ -38,6 +38,16 @@ pub fn one_states()
     ensures { OneStates }
 {}
 
+/// A request for the components that distinguish domain states has one answer.
+pub fn one_differ()
+    ensures { OneDiffer }
+{}
+
+/// A request for pair classes has one answer.
+pub fn one_pairs()
+    ensures { OnePairs }
+{}
+
 /// A line that spells a request for a form has one answer.
 pub fn one_form_answer()
     ensures { OneFormAnswer }
@@ -46,4 +56,9 @@ pub fn one_form_answer()
 /// A line that spells a request for the elements of a group has one answer.
 pub fn one_group_answer()
     ensures { OneGroupAnswer }
+{}
+
+/// A line has one answer.
+pub fn one_answer()
+    ensures { OneAnswer }
 {}
