@@ -1,7 +1,8 @@
 -- The list of the operations at marked places.
 use Rattle.std.proofs.Common.{◌≡◌, ◌≢◌, ℕ, zero, suc, ◌+◌, ◌*◌, ◌<◌, ◌≤◌, Bool, true, false, List, [], ◌∷◌, ◌++◌, length, refl, ap, sym, ◌∙◌, arith, subst, lit<, cond, ◌⊎◌, inl, inr, add-one}
-use Rattle.std.specs.Prelude.{nat_lt, Contains, IsTrue, slice_index_or}
+use Rattle.std.specs.Prelude.{nat_lt, Contains, IsTrue, slice_index_or, slice_get, Some}
 use Rattle.std.proofs.lemmas.Bool.Decides.{nat_tests}
+use Rattle.std.proofs.lemmas.List.{length-append}
 use Rattle.std.proofs.lemmas.List.Elements.{Contains-append_left, Contains-push, Contains-push_cases}
 use Rattle.tensor_defs.specs.Operation.{Operation}
 use Rattle.tensor_defs.specs.Lists.{Each, IsRising}
@@ -85,3 +86,31 @@ pub marked_rising : (n : ℕ) (m : List Bool) → n ≤ 128 → IsRising comes_b
 unfolding marked_below
 marked_rising zero m h = tt
 marked_rising (suc n) m h = subst (λ x. IsRising comes_before (marked_below x m)) (add-one n) (rising_step n m (mark_at m n) refl (omega arith) (marked_rising n m (omega arith)))
+
+-- ---- its first member
+first_kept : (xs ys : List Operation) (x : Operation) → slice_get xs 0 ≡ Some x → slice_get (xs ++ ys) 0 ≡ Some x
+first_kept [] ys x e = cc
+first_kept (a ∷ later) ys x e = e
+
+first_more : (n : ℕ) (m : List Bool) (b : Bool) (x : Operation) → mark_at m n ≡ b → slice_get (marked_below n m) 0 ≡ Some x → slice_get (marked_below (n + 1) m) 0 ≡ Some x
+first_more n m true x e h = subst (λ xs. slice_get xs 0 ≡ Some x) (sym (marked_next n m e)) (first_kept (marked_below n m) (nth_operation n ∷ []) x h)
+first_more n m false x e h = subst (λ xs. slice_get xs 0 ≡ Some x) (sym (marked_past n m e)) h
+
+first_one : (m : List Bool) → mark_at m 0 ≡ true → slice_get (marked_below 1 m) 0 ≡ Some (nth_operation 0)
+unfolding marked_below
+first_one m e = subst (λ xs. slice_get xs 0 ≡ Some (nth_operation 0)) (sym (marked_next 0 m e)) refl
+
+pub marked_first : (n : ℕ) (m : List Bool) → 0 < n → mark_at m 0 ≡ true → slice_get (marked_below n m) 0 ≡ Some (nth_operation 0)
+marked_first zero m h e = absurd (omega arith)
+marked_first (suc zero) m h e = first_one m e
+marked_first (suc (suc n)) m h e = subst (λ x. slice_get (marked_below x m) 0 ≡ Some (nth_operation 0)) (add-one (suc n)) (first_more (suc n) m (mark_at m (suc n)) (nth_operation 0) refl (marked_first (suc n) m (omega arith) e))
+
+-- ---- and its length
+length_step : (n : ℕ) (m : List Bool) (b : Bool) → mark_at m n ≡ b → length (marked_below n m) ≤ n → length (marked_below (n + 1) m) ≤ n + 1
+length_step n m true e h = subst (λ xs. length xs ≤ n + 1) (sym (marked_next n m e)) (let l = length-append (marked_below n m) (nth_operation n ∷ []) in omega (arith, l))
+length_step n m false e h = subst (λ xs. length xs ≤ n + 1) (sym (marked_past n m e)) (omega arith)
+
+pub marked_length : (n : ℕ) (m : List Bool) → length (marked_below n m) ≤ n
+unfolding marked_below
+marked_length zero m = omega arith
+marked_length (suc n) m = subst (λ x. length (marked_below x m) ≤ x) (add-one n) (length_step n m (mark_at m n) refl (marked_length n m))

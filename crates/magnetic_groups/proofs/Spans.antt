@@ -1,21 +1,23 @@
 -- The span of framed generators is a group.
 use Rattle.std.proofs.Common.{◌≡◌, ◌≢◌, ℕ, zero, suc, ◌+◌, ◌-◌, ◌*◌, ◌<◌, ◌≤◌, Bool, true, false, List, [], ◌∷◌, ◌++◌, length, refl, ap, sym, ◌∙◌, arith, subst, lit<, ◌⊎◌, inl, inr}
 use Rattle.std.proofs.lemmas.List.{get_or_default}
-use Rattle.std.specs.Prelude.{slice_index_or, Contains, ◌↔◌, IsTrue, IfOk, Result, Ok, Err}
+use Rattle.std.specs.Prelude.{slice_index_or, slice_get, Some, Contains, ◌↔◌, IsTrue, IfOk, Result, Ok, Err}
 use Rattle.std.proofs.lemmas.List.Elements.{Contains-append_left, Contains-push, Contains-push_cases}
 use Rattle.tensor_defs.specs.Operation.{Operation, IsProduct, identity}
-use Rattle.tensor_defs.specs.Lists.{Each}
+use Rattle.tensor_defs.specs.Lists.{Each, IsListing}
+use Rattle.tensor_defs.specs.OperationOrder.{comes_before}
 use Rattle.tensor_defs.specs.Group.{IsProductOf, Generated}
 use Rattle.tensor_defs.specs.Frames.{IsPlain, IsHexagonal, HaveCommonFrame}
 use Rattle.tensor_laws.proofs.Products.{product_unique, generated_within}
 use Rattle.tensor_laws.proofs.Associativity.{product_assoc}
-use Rattle.op_matrix.specs.Table.{nth_operation, place}
+use Rattle.op_matrix.specs.Table.{nth_operation, operation_at, place, matrix_place}
 use Rattle.op_matrix.proofs.Facts.{place_of_nth}
 use Rattle.op_matrix.proofs.Listed.{plain_product, hex_product, plain_one, hex_one, OneTimes}
 use Rattle.magnetic_groups.specs.Marks.{mark_at, Reached, marked_below}
-use Rattle.magnetic_groups.specs.Sets.{HaveFrame, Spanned, IsGroup, IsKept, IsFirstOutside, IsWithin}
-use Rattle.magnetic_groups.proofs.Closing.{nat_split, spanned_times, spanned_one, spanned_framed, spanned_plain, spanned_hex, span_frame, reached_spanned, IsClosed, reached_all, mark_inside}
-use Rattle.magnetic_groups.proofs.Marked.{Below, contains_told, contains_of, marked_rising}
+use Rattle.magnetic_groups.proofs.Inverses.{closed_inverse}
+use Rattle.magnetic_groups.specs.Sets.{HaveFrame, FitsFrame, Spanned, IsGroup, IsKept, IsFirstOutside, IsWithin}
+use Rattle.magnetic_groups.proofs.Reaching.{nat_split, spanned_times, spanned_one, spanned_framed, spanned_plain, spanned_hex, span_frame, reached_spanned, IsClosed, reached_all, mark_inside}
+use Rattle.magnetic_groups.proofs.Marked.{marked_first, Below, contains_told, contains_of, marked_rising}
 
 -- two operations of one frame have a product
 pub common_product : (g h : Operation) → HaveCommonFrame g h → (k : Operation) × IsProduct g h k
@@ -47,6 +49,14 @@ span_member gens g (inr f) c = spanned_times gens g identity g c (spanned_one ge
 pub contains_reached : (m : List Bool) (g : Operation) → length m ≡ 128 → Contains (marked_below 128 m) g ↔ Reached m g
 contains_reached m g l = (contains_told 128 m g, λ r. subst (Contains (marked_below 128 m)) (sym r.3) (contains_of 128 r.0 m r.1 r.2))
 
+place_is_zero : (k : ℕ) → k < 128 → identity ≡ nth_operation k → k ≡ 0
+unfolding matrix_place
+place_is_zero k h e = sym (place_of_nth k h) ∙ ap place (sym e)
+
+first_is : nth_operation 0 ≡ identity
+unfolding nth_operation operation_at
+first_is = refl
+
 pub closed_kept : (gens items f : List Operation) (n : ℕ) (m : List Bool) → HaveFrame gens → IsClosed gens n m f → length f ≤ n → items ≡ marked_below 128 m → IsKept gens items m
 closed_kept gens items f n m fr c h e = subst (λ x. IsKept gens x m) (sym e) (record {
   marked = c.closing.sized;
@@ -55,14 +65,29 @@ closed_kept gens items f n m fr c h e = subst (λ x. IsKept gens x m) (sym e) (r
   inside = λ g a. (spans g).1 (span_member gens g fr a);
   group = record {
     rising = marked_rising 128 m (omega arith);
-    one = (contains_reached m identity c.closing.sized).1 c.one;
-    closed = λ g h a b. let s = (spans g).0 a in let r = span_product gens fr s.0 g h s.1 s.2 ((spans h).0 b) in (r.0, (spans r.0).1 r.1, r.2);
-    frame = span_frame gens (marked_below 128 m) fr (λ k a. (spans k).0 a);
+    first = marked_first 128 m (lit< tt) (subst (λ x. mark_at m x ≡ true) (place_is_zero c.one.0 c.one.1 c.one.3) c.one.2) ∙ ap Some first_is;
+    one = one;
+    closed = closed;
+    inverses = closed_inverse (marked_below 128 m) one closed frame;
+    frame = frame;
   };
 })
   where
     spans : (k : Operation) → Contains (marked_below 128 m) k ↔ Spanned gens k
     spans k = (λ a. reached_spanned gens f m k c.closing ((contains_reached m k c.closing.sized).0 a), λ s. (contains_reached m k c.closing.sized).1 (reached_all gens n m f c h k s))
+
+    one : Contains (marked_below 128 m) identity
+    one = (contains_reached m identity c.closing.sized).1 c.one
+
+    closed : (g h : Operation) → Contains (marked_below 128 m) g → Contains (marked_below 128 m) h → (k : Operation) × Contains (marked_below 128 m) k × IsProduct g h k
+    closed g h a b = let s = (spans g).0 a in let r = span_product gens fr s.0 g h s.1 s.2 ((spans h).0 b) in (r.0, (spans r.0).1 r.1, r.2)
+
+    frame : HaveFrame (marked_below 128 m)
+    frame = span_frame gens (marked_below 128 m) fr (λ k a. (spans k).0 a)
+
+-- the listing of a span
+pub kept_listing : (gens items : List Operation) (m : List Bool) → IsKept gens items m → IsListing comes_before (Spanned gens) items
+kept_listing gens items m i = record { rising = i.group.rising; members = i.spanned }
 
 -- the span of no generators
 pub span_none : (k : Operation) → Spanned [] k ↔ (k ≡ identity)
@@ -82,9 +107,12 @@ mark_tells gens items m g k i e q h = (λ t. subst (λ xs. Contains xs g) (sym i
     back : Contains items g → IsTrue (mark_at m k)
     back c = let r : Reached m g = (contains_reached m g i.marked).0 (subst (λ xs. Contains xs g) i.listed c) in subst (λ x. mark_at m x ≡ true) (sym (place_of_nth r.0 r.1) ∙ ap place (sym r.3) ∙ q) r.2
 
--- a result's group of no generators
-pub only_identity : (gens : List Operation) (k : Operation) → gens ≡ [] → (xs : List Operation) → (Contains xs k ↔ Spanned gens k) → Contains xs k ↔ (k ≡ identity)
-only_identity gens k e xs h = let g = subst (λ x. Contains xs k ↔ Spanned x k) e h in (λ c. (span_none k).0 (g.0 c), λ q. g.1 ((span_none k).1 q))
+-- the listing of the span of no generators
+pub only_identity : (gens : List Operation) → gens ≡ [] → (xs : List Operation) → IsListing comes_before (Spanned gens) xs → IsListing comes_before (λ k. k ≡ identity) xs
+only_identity gens e xs l = record {
+  rising = l.rising;
+  members = λ k. let g = subst (λ x. Contains xs k ↔ Spanned x k) e (l.members k) in (λ c. (span_none k).0 (g.0 c), λ q. g.1 ((span_none k).1 q));
+}
 
 pub no_frame : (gens : List Operation) → gens ≡ [] → HaveFrame gens
 no_frame gens e = inl (λ g c. absurd (nothing g (subst (λ x. Contains x g) e c)))
@@ -145,19 +173,26 @@ inside_more xs ys n g h at c m j d l = by (nat_split j n)
 pub inside_all : (xs ys zs : List Operation) (n : ℕ) → xs ≡ zs → length xs ≤ n → ((j : ℕ) (d : Operation) → j < n → Contains ys (slice_index_or xs j d)) → IsWithin zs ys
 inside_all xs ys zs n e h m = subst (λ x. IsWithin x ys) e (λ g c. let l = c.1 in subst (Contains ys) c.2 (m c.0 g (omega arith)))
 
-pub joined_told : (gens items view all : List Operation) (m : List Bool) (op : Operation) → IsKept gens items m → items ≡ view → all ≡ gens ++ op ∷ [] → HaveFrame (view ++ op ∷ []) → (xs : List Operation) (k : Operation) → (Contains xs k ↔ Spanned all k) → Contains xs k ↔ Joined view op k
-joined_told gens items view all m op i e f fr xs k h =
-    let b : Spanned (gens ++ op ∷ []) k ↔ Joined items op k = joined_span gens items m op i (subst (λ ys. HaveFrame (ys ++ op ∷ [])) (sym e) fr) k in
-    let h' : Contains xs k ↔ Spanned (gens ++ op ∷ []) k = subst (λ ys. Contains xs k ↔ Spanned ys k) f h in
-    let b' : Spanned (gens ++ op ∷ []) k ↔ Joined view op k = subst (λ ys. Spanned (gens ++ op ∷ []) k ↔ Joined ys op k) e b in
-    (λ x. b'.0 (h'.0 x), λ x. h'.1 (b'.1 x))
+pub fits_frame : (xs : List Operation) (g : Operation) → FitsFrame xs g → HaveFrame (xs ++ g ∷ [])
+fits_frame xs g (inl f) = inl (λ k c. elim (Contains-push_cases xs g k c) [ inl h ↦ f.1 k h | inr e ↦ subst IsPlain e f.0 ])
+fits_frame xs g (inr f) = inr (λ k c. elim (Contains-push_cases xs g k c) [ inl h ↦ f.1 k h | inr e ↦ subst IsHexagonal e f.0 ])
+
+pub joined_told : (gens items view all : List Operation) (m : List Bool) (op : Operation) → IsKept gens items m → items ≡ view → all ≡ gens ++ op ∷ [] → FitsFrame view op → (xs : List Operation) → IsListing comes_before (Spanned all) xs → IsListing comes_before (Joined view op) xs
+joined_told gens items view all m op i e f fr xs l = record {
+  rising = l.rising;
+  members = λ k.
+      let b : Spanned (gens ++ op ∷ []) k ↔ Joined items op k = joined_span gens items m op i (subst (λ ys. HaveFrame (ys ++ op ∷ [])) (sym e) (fits_frame view op fr)) k in
+      let h : Contains xs k ↔ Spanned (gens ++ op ∷ []) k = subst (λ ys. Contains xs k ↔ Spanned ys k) f (l.members k) in
+      let b' : Spanned (gens ++ op ∷ []) k ↔ Joined view op k = subst (λ ys. Spanned (gens ++ op ∷ []) k ↔ Joined ys op k) e b in
+      (λ x. b'.0 (h.0 x), λ x. h.1 (b'.1 x));
+}
 
 -- the refusal of a symbol that isn't grey
-pub refused : (xs gens : List Operation) (g r : Operation) (b : Bool) → ((k : Operation) → Contains xs k ↔ Spanned gens k) → g ≡ r → ((IsTrue b → Contains xs g) × (Contains xs g → IsTrue b)) → b ≡ true → Spanned gens r
-refused xs gens g r b h e t f = (h r).0 (subst (Contains xs) e (t.0 f))
+pub refused : (xs gens : List Operation) (g r : Operation) (b : Bool) → IsListing comes_before (Spanned gens) xs → g ≡ r → (IsTrue b ↔ Contains xs g) → b ≡ true → Spanned gens r
+refused xs gens g r b l e t f = (l.members r).0 (subst (Contains xs) e (t.0 f))
 
-pub accepted : (xs gens : List Operation) (g r : Operation) (b : Bool) → ((k : Operation) → Contains xs k ↔ Spanned gens k) → g ≡ r → ((IsTrue b → Contains xs g) × (Contains xs g → IsTrue b)) → b ≡ false → ¬ Spanned gens r
-accepted xs gens g r b h e t f s = false_true (sym f ∙ t.1 (subst (Contains xs) (sym e) ((h r).1 s)))
+pub accepted : (xs gens : List Operation) (g r : Operation) (b : Bool) → IsListing comes_before (Spanned gens) xs → g ≡ r → (IsTrue b ↔ Contains xs g) → b ≡ false → ¬ Spanned gens r
+accepted xs gens g r b l e t f s = false_true (sym f ∙ t.1 (subst (Contains xs) (sym e) ((l.members r).1 s)))
   where
     false_true : false ≡ true → ⊥
     false_true e = cc

@@ -2,8 +2,8 @@ use Rattle.std.proofs.Common.{◌≡◌, refl, sym, ◌∙◌}
 use Rattle.std.specs.Prelude.{Contains}
 use Rattle.std.proofs.lemmas.List.{get_or_default}
 use Rattle.tensor_defs.specs.Operation.{Operation}
-use Rattle.magnetic_groups.proofs.Closing.{reaching_more, spanned_framed, reached_spanned, reached_more}
-use Rattle.magnetic_groups.proofs.reach.Goals as goal
+use Rattle.magnetic_groups.proofs.Reaching.{reaching_more, spanned_framed, reached_spanned, reached_more}
+use Rattle.magnetic_groups.proofs.closing.reach.Goals as goal
 
 pub product-requires : goal.product-requires
 product-requires c =
