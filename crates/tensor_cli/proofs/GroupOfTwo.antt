@@ -1,29 +1,24 @@
 -- The group of 2, made from the trivial group and the rotation, and the axes that it keeps.
 use Rattle.std.proofs.Common.{◌≡◌, ◌≢◌, ℕ, ◌<◌, true, false, Bool, IsTrue, ◌↔◌, List, [], ◌∷◌, ◌++◌, length, refl, sym, ◌∙◌, ap, subst, lit<, ◌⊎◌, inl, inr, Contains}
-use Rattle.std.proofs.lemmas.List.Elements.{Contains-append_cases}
 use lib.IntN.{pos, negsuc}
 use mathlib.Core.Bool.{xor}
 use Rattle.tensor_defs.specs.Frames.{IsPlain, IsHexagonal}
 use Rattle.tensor_defs.specs.Group.{Generated, InGroup}
+use Rattle.tensor_defs.specs.Lists.{IsListing}
+use Rattle.tensor_defs.specs.OperationOrder.{comes_before}
 use Rattle.tensor_defs.specs.Operation.{Operation, IsProduct, identity, entry, one, minus_one, x1, x2, x3}
-use Rattle.magnetic_groups.specs.Sets.{HaveFrame}
+use Rattle.magnetic_groups.specs.Sets.{FitsFrame}
 use Rattle.tensor_laws.proofs.Products.{product_tested, generated_within}
 use Rattle.tensor_cli.specs.Forms.{KeepsAxis}
 use Rattle.worked_rows.proofs.FirstLine.{two_members, identity_plain, two_y_plain}
-use Rattle.worked_rows.proofs.RowProofs.{lone}
 use Rattle.worked_rows.proofs.VectorRow.{TheTwo, times_two}
 use Rattle.worked_rows.specs.Rows.{two_alone, two_y}
 
 -- the identity and the rotation are plain
-pub two_frame : (xs : List Operation) (t : Operation) → ((k : Operation) → Contains xs k ↔ (k ≡ identity)) → t ≡ two_y
-    → HaveFrame (xs ++ t ∷ [])
-two_frame xs t one is = inl (λ g c. elim (Contains-append_cases xs (t ∷ []) g c) [
-  | inl h ↦ subst IsPlain (sym ((one g).0 h)) identity_plain
-  | inr h ↦ subst IsPlain (sym (last g h)) two_y_plain
-])
-  where
-    last : (g : Operation) → Contains (t ∷ []) g → g ≡ two_y
-    last g h = lone t g h.0 h.1 h.2 ∙ is
+pub two_frame : (xs : List Operation) (t : Operation) → IsListing comes_before (λ k. k ≡ identity) xs → t ≡ two_y
+    → FitsFrame xs t
+two_frame xs t one is =
+    inl (subst IsPlain (sym is) two_y_plain, λ g c. subst IsPlain (sym ((one.members g).0 c)) identity_plain)
 
 one_times : (l : Operation) → TheTwo l → (m : Operation) × TheTwo m × IsProduct identity l m
 unfolding xor
@@ -46,12 +41,15 @@ both_there xs k (inr e) =
     (two_y ∷ [], (inr refl, tt), (identity, refl, product_tested two_y identity two_y refl))
 
 -- what the trivial group and the rotation generate is the group of 2
-pub joined_two : (xs gs : List Operation) (t : Operation) → ((k : Operation) → Contains xs k ↔ (k ≡ identity)) → t ≡ two_y
-    → ((k : Operation) → Contains gs k ↔ Generated (λ s. Contains xs s ⊎ (s ≡ t)) k)
+pub joined_two : (xs gs : List Operation) (t : Operation) → IsListing comes_before (λ k. k ≡ identity) xs → t ≡ two_y
+    → IsListing comes_before (λ k. Generated (λ s. Contains xs s ⊎ (s ≡ t)) k) gs
     → (k : Operation) → Contains gs k ↔ InGroup two_alone k
 joined_two xs gs t one is made k =
-    let made_of = subst (λ x. (k : Operation) → Contains gs k ↔ Generated (λ s. Contains xs s ⊎ (s ≡ x)) k) is made in
-    (λ c. (two_members k).1 (only_two xs one k ((made_of k).0 c)), λ g. (made_of k).1 (both_there xs k ((two_members k).0 g)))
+    let made_of = subst (λ x. (k : Operation) → Contains gs k ↔ Generated (λ s. Contains xs s ⊎ (s ≡ x)) k) is made.members in
+    (
+      λ c. (two_members k).1 (only_two xs one.members k ((made_of k).0 c)),
+      λ g. (made_of k).1 (both_there xs k ((two_members k).0 g)),
+    )
 
 -- y is the one axis that the group of 2 keeps
 pub two_axes : (gs : List Operation) → ((k : Operation) → Contains gs k ↔ InGroup two_alone k) → (x y z : Bool)

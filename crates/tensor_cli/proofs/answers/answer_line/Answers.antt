@@ -7,9 +7,5 @@ pub returns-in_ok-write_vector_form-in-None-clause-ok : goal.returns-in_ok-write
 returns-in_ok-write_vector_form-in-None-clause-ok c = (
   vector_form_text (false ∷ true ∷ false ∷ []),
   built_answer c.args.number c.args.line.now c.in-None.ensures.0 c.in-None.ensures.1,
-<<<<<<< HEAD
-  c.in-Ok-write_vector_form.ensures.ok ∙ ap (λ (fs : List Bool). c.args.out.now.items ++ vector_form_text fs) c.in-Ok-free_components.ensures,
-=======
-  c.in_ok-write_vector_form-in-None.ensures.ok ∙ ap (λ (fs : List Bool). c.args.out.now.items ++ vector_form_text fs) c.free_components.ensures,
->>>>>>> f97eaaba3432dfec777a1a4cbb96f0487cb2be7b
+  c.in_ok-write_vector_form-in-None.ensures.ok ∙ ap (λ (fs : List Bool). c.args.out.now.items ++ vector_form_text fs) c.in_ok-free-in-None.ensures,
 )
