@@ -1,76 +1,57 @@
-//! Reads and writes in memory, and over readers and writers, as tables.
+//! Reads and writes in memory, and over readers and writers.
 use crate::{
-    MemSink, MemSource, Sink, SinkFailed, Source, SourceFailed, StdSink, StdSource, SureSink,
-    SureSource, write_all_of,
+    MemSink, MemSource, Sink, Source, StdSink, StdSource, SureSink, SureSource, write_all_of,
 };
+use std::alloc::Global;
 use std::io;
 use std::io::{Read, Write};
+use std::process::Abort;
 use std::test::Fail;
 
 const TEXT: &[u8] = b"abcdef";
 
-const NONE: &[u64] = &[];
+/// Reads once into five bytes, and writes what was read once.
+fn step<I: Source, O: Sink>(source: &mut I, sink: &mut O) -> (Option<usize>, Option<usize>) {
+    let mut into = [0; 5];
+    let given = source.read(&mut into).ok();
+    let count = given.unwrap_or(0).min(5);
+    (given, sink.write(&into[..count]).ok())
+}
 
-#[test]
-fn reads_in_memory(rt: HostRuntime) -> Result<(), Fail> {
-    let alloc = rt.alloc();
-    let rows = [
-        (4, NONE, 9, Ok(4)),
-        (4, NONE, 2, Ok(2)),
-        (8, NONE, 9, Ok(6)),
-        (4, &[3], 9, Ok(3)),
-        (4, &[5, 2], 9, Ok(2)),
-        (4, &[4], 9, Ok(4)),
-        (4, &[0], 9, Err(SourceFailed)),
-    ];
-    for (piece, fails, room, want) in rows {
-        let mut source = MemSource::new(TEXT.to_vec(alloc)?, piece.max(1), fails.to_vec(alloc)?);
-        let mut into = [0; 9];
-        let given = source.read(&mut into[..room.clamp(1, 9)]);
-        assert_eq!(rt; given, want);
-        let count = given.unwrap_or(0).min(6);
-        assert_eq!(rt; &into[..count], &TEXT[..count]);
-        assert_eq!(rt; source.remaining(), &TEXT[count..]);
-    }
+/// A step in memory, with the place where the read fails, and the places where the write fails or sticks.
+fn expect_step(
+    rt: &impl Abort,
+    alloc: Global,
+    read: (usize, u64),
+    write: (usize, usize, u64, u64),
+    want: (Option<usize>, Option<usize>),
+) -> Result<(), Fail> {
+    let read_fails = vec![in alloc; read.1]?;
+    let write_fails = vec![in alloc; write.2]?;
+    let mut source = MemSource::new(TEXT.to_vec(alloc)?, read.0.max(1), read_fails);
+    let mut sink = MemSink::new(alloc, write.0, write.1.max(1), write_fails, Some(write.3))?;
+    assert!(rt; step(&mut source, &mut sink) == want);
+    assert!(rt; source.remaining() == &TEXT[want.0.unwrap_or(0).min(6)..]);
+    assert!(rt; sink.taken() == &TEXT[..want.1.unwrap_or(0).min(6)]);
     Ok(())
 }
 
 #[test]
-fn writes_in_memory(rt: HostRuntime) -> Result<(), Fail> {
-    let alloc = rt.alloc();
+fn steps_in_memory(rt: HostRuntime) -> Result<(), Fail> {
     let rows = [
-        (9, 4, NONE, None, 6, Ok(4)),
-        (9, 8, NONE, None, 6, Ok(6)),
-        (3, 4, NONE, None, 6, Ok(3)),
-        (9, 4, &[5, 2], None, 6, Ok(2)),
-        (9, 4, NONE, Some(1), 6, Ok(1)),
-        (9, 4, NONE, Some(0), 6, Ok(0)),
-        (9, 4, &[0], Some(0), 6, Err(SinkFailed)),
-        (0, 4, NONE, Some(0), 6, Err(SinkFailed)),
-        (0, 4, &[0], Some(0), 0, Ok(0)),
+        ((4, 9), (9, 9, 9, 9), (Some(4), Some(4))),
+        ((8, 9), (9, 3, 9, 9), (Some(5), Some(3))),
+        ((8, 2), (9, 9, 9, 9), (Some(2), Some(2))),
+        ((8, 0), (0, 9, 0, 0), (None, Some(0))),
+        ((8, 9), (4, 9, 9, 9), (Some(5), Some(4))),
+        ((8, 9), (0, 9, 9, 9), (Some(5), None)),
+        ((8, 9), (9, 9, 2, 9), (Some(5), Some(2))),
+        ((8, 9), (9, 9, 0, 0), (Some(5), None)),
+        ((8, 9), (9, 9, 9, 1), (Some(5), Some(1))),
+        ((8, 9), (9, 9, 9, 0), (Some(5), Some(0))),
     ];
-    for (room, piece, fails, stuck, given, want) in rows {
-        let mut sink = MemSink::new(alloc, room, piece.max(1), fails.to_vec(alloc)?, stuck)?;
-        let taken = sink.write(&TEXT[..given.min(6)]);
-        assert_eq!(rt; taken, want);
-        assert_eq!(rt; sink.taken(), &TEXT[..taken.unwrap_or(0).min(6)]);
-    }
-    Ok(())
-}
-
-#[test]
-fn writes_whole_pieces(rt: HostRuntime) -> Result<(), Fail> {
-    let alloc = rt.alloc();
-    let rows = [
-        (NONE, None, Ok(()), 6),
-        (&[5], None, Err(SinkFailed), 5),
-        (NONE, Some(3), Err(SinkFailed), 3),
-        (NONE, Some(0), Err(SinkFailed), 0),
-    ];
-    for (fails, stuck, want, count) in rows {
-        let mut sink = MemSink::new(alloc, 9, 2, fails.to_vec(alloc)?, stuck)?;
-        assert_eq!(rt; write_all_of(&mut sink, TEXT), want);
-        assert_eq!(rt; sink.taken(), &TEXT[..count.min(6)]);
+    for (read, write, want) in rows {
+        expect_step(&rt, rt.alloc(), read, write, want)?;
     }
     Ok(())
 }
@@ -80,90 +61,50 @@ fn never_fails(rt: HostRuntime) -> Result<(), Fail> {
     let alloc = rt.alloc();
     let mut source = SureSource::new(TEXT.to_vec(alloc)?);
     let mut sink = SureSink::new(alloc);
-    let mut into = [0; 4];
-    for want in [4, 2, 0] {
-        assert_eq!(rt; source.read(&mut into), Ok(want));
-        assert_eq!(rt; sink.write(&into[..want.min(4)]), Ok(want));
-    }
-    assert!(rt; source.remaining().is_empty());
-    assert_eq!(rt; sink.taken(), TEXT);
+    assert!(rt; step(&mut source, &mut sink) == (Some(5), Some(5)));
+    assert!(rt; source.remaining() == b"f".as_slice());
+    assert!(rt; sink.taken() == b"abcde".as_slice());
     Ok(())
 }
 
-/// Gives these bytes, and then fails.
-#[derive(Drop)]
-struct FailsAfter(&'static [u8]);
-
-impl Read for FailsAfter {
-    fn read(&mut self, into: &mut [u8]) -> io::Result<usize> {
-        if self.0.is_empty() {
-            return Err(io::ErrorKind::Other.into());
-        }
-        self.0.read(into)
-    }
-}
-
 #[test]
-fn reads_a_reader(rt: HostRuntime) {
-    let mut into = [0; 4];
-    let mut source = StdSource::new(TEXT);
-    for want in [4, 2, 0] {
-        assert_eq!(rt; source.read(&mut into), Ok(want));
-    }
-    assert_eq!(rt; &into, b"efcd");
-    let mut failing = StdSource::new(FailsAfter(TEXT));
-    for want in [Ok(4), Ok(2), Err(SourceFailed), Err(SourceFailed)] {
-        assert_eq!(rt; failing.read(&mut into), want);
-    }
+fn writes_whole_pieces(rt: HostRuntime) -> Result<(), Fail> {
+    let alloc = rt.alloc();
+    let mut sink = MemSink::new(alloc, 9, 2, vec![in alloc; 7u64]?, None)?;
+    assert!(rt; write_all_of(&mut sink, TEXT).is_ok());
+    assert!(rt; write_all_of(&mut sink, TEXT).is_err());
+    assert!(rt; sink.taken() == b"abcdefa".as_slice());
+    Ok(())
 }
 
-/// Takes at most so many bytes at a write, or fails where that is not given, and shows what it holds once flushed.
+/// Fails at each call, but takes what is written.
 #[derive(Drop)]
-struct Shown {
-    held: Vec<u8>,
-    shown: usize,
-    most: Option<usize>,
-    flushes: bool,
+struct Failing;
+
+impl Read for Failing {
+    fn read(&mut self, _: &mut [u8]) -> io::Result<usize> {
+        Err(io::ErrorKind::Other.into())
+    }
 }
 
-impl Write for Shown {
+impl Write for Failing {
     fn write(&mut self, piece: &[u8]) -> io::Result<usize> {
-        let Some(most) = self.most else {
-            return Err(io::ErrorKind::Other.into());
-        };
-        let count = piece.len().min(most);
-        self.held.extend_from_slice(&piece[..count])?;
-        Ok(count)
+        Ok(piece.len())
     }
 
     fn flush(&mut self) -> io::Result<()> {
-        if !self.flushes {
-            return Err(io::ErrorKind::Other.into());
-        }
-        self.shown = self.held.len();
-        Ok(())
+        Err(io::ErrorKind::Other.into())
     }
 }
 
 #[test]
-fn writes_a_writer(rt: HostRuntime) -> Result<(), Fail> {
-    let alloc = rt.alloc();
-    let rows = [
-        (Some(9), true, Ok(()), 6),
-        (Some(4), true, Ok(()), 6),
-        (Some(0), true, Err(SinkFailed), 0),
-        (Some(4), false, Err(SinkFailed), 0),
-        (None, true, Err(SinkFailed), 0),
-    ];
-    for (most, flushes, want, shown) in rows {
-        let mut writer = Shown {
-            held: Vec::new(alloc),
-            shown: 0,
-            most,
-            flushes,
-        };
-        assert_eq!(rt; write_all_of(&mut StdSink::new(&mut writer), TEXT), want);
-        assert_eq!(rt; writer.shown, shown);
-    }
-    Ok(())
+fn reads_and_writes_outside(rt: HostRuntime) {
+    let mut bytes = Vec::new(rt.alloc());
+    let mut reader = StdSource::new(TEXT.chain(Failing));
+    let mut writer = StdSink::new(&mut bytes);
+    assert!(rt; step(&mut reader, &mut writer) == (Some(5), Some(5)));
+    let mut failing = StdSink::new(Failing);
+    assert!(rt; step(&mut reader, &mut failing) == (Some(1), None));
+    assert!(rt; step(&mut reader, &mut writer) == (None, Some(0)));
+    assert!(rt; bytes.as_slice() == b"abcde".as_slice());
 }
