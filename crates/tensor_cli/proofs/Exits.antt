@@ -1,5 +1,5 @@
 -- What a run leaves where it stops.
-use Rattle.std.proofs.Common.{◌≡◌, inl, inr, ℕ, ◌+◌, ◌<◌, ◌≤◌, Bool, true, false, ◌||◌, ◌⊎◌, if◌then◌else◌, IsTrue, Ok, Err, ◌↔◌, List, [], ◌∷◌, ◌++◌, length, take, Some, None, refl, sym, ◌∙◌, ap, subst, arith, append_assoc, length-append}
+use Rattle.std.proofs.Common.{◌≡◌, inl, inr, ℕ, ◌+◌, ◌<◌, ◌≤◌, Bool, true, false, ◌||◌, ◌⊎◌, IsTrue, Ok, Err, ◌↔◌, List, [], ◌∷◌, ◌++◌, length, take, Some, None, refl, sym, ◌∙◌, ap, subst, arith, append_assoc, length-append}
 use Rattle.std.proofs.lemmas.List.{append-nil, take_at}
 use Rattle.std.specs.List.{AllByRecursion}
 use Rattle.std.specs.declared.result.Result.{Result}
@@ -12,7 +12,7 @@ use Rattle.tensor_cli.specs.Reads.{HasNoBreak, Stands}
 use Rattle.tensor_cli.specs.Stage.{StageAnswer, IsStageRefused, IsQuick}
 use Rattle.tensor_cli.specs.Runs.{SomeLineRefused, NoLineRefused, IsAnswered, StopsReading, StopsWriting, PassesLimit, LacksMemory, Leaves, IsComplete}
 use Rattle.tensor_cli.specs.declared.outcome.Outcome.{Outcome}
-use Rattle.tensor_cli.specs.declared.outcome.Outcome.TheVariants.{Answered, SomeRefused, Usage, ReadFault, WriteFault, NoMemory, InputLimit}
+use Rattle.tensor_cli.specs.declared.outcome.Outcome.TheVariants.{Answered, SomeRefused, Usage, ReadFault, WriteFault}
 use Rattle.tensor_cli.proofs.LineLemmas.{no_break_append, lines-ended, lines-whole, whole-ended, ended-push}
 use Rattle.tensor_cli.proofs.AnswerLemmas.{answers-push}
 use Rattle.tensor_cli.specs.declared.outcome.Stop.{Stop}

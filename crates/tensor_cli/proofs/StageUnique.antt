@@ -1,14 +1,13 @@
 -- A line has at most one refusal and one answer.
-use Rattle.std.proofs.Common.{◌≡◌, ◌≢◌, ◌⊎◌, ⊎_elim, inl, inr, ℕ, ◌<◌, ◌≤◌, List, [], ◌∷◌, length, refl, sym, ◌∙◌, ap, subst, arith}
+use Rattle.std.proofs.Common.{◌≡◌, ◌⊎◌, inl, inr, ℕ, ◌<◌, ◌≤◌, List, [], ◌∷◌, length, refl, sym, ◌∙◌, ap, subst, arith}
 use Rattle.std.specs.Prelude.{codes}
 use Rattle.std.proofs.lemmas.Bool.{cases_eq, cases_lt}
-use Rattle.text_defs.specs.Refusals.{RefusalWord}
 use Rattle.text_defs.specs.Refusals.RefusalWord.{Long, Syntax, Primes, Rank, Shape, NotSub, TooLarge}
 use Rattle.text_defs.specs.Answers.{IsAnswer}
 use Rattle.worked_rows.specs.Rows.{two_alone, vector_symbol}
 use Rattle.worked_rows.proofs.FirstRowProof.{first_row}
 use Rattle.answer_laws.proofs.Lines.{one_form_answer_lem}
-use Rattle.tensor_cli.specs.Stage.{StageWord, IsBuilt, StageRefuses, IsStageRefused, StageAnswer, stage_refusal_text}
+use Rattle.tensor_cli.specs.Stage.{StageWord, IsBuilt, StageRefuses, IsStageRefused, stage_refusal_text}
 use Rattle.tensor_cli.specs.Stage.StageWord.{Refused, Unbuilt}
 use Rattle.tensor_cli.specs.Laws.{OneStageRefusal, OneStageAnswer}
 

@@ -1,4 +1,4 @@
-use Rattle.std.proofs.Common.{◌++◌, ◌∙◌, ap, Bool, true, false, List, [], ◌∷◌, ℕ}
+use Rattle.std.proofs.Common.{◌++◌, ◌∙◌, ap, Bool, true, false, List, [], ◌∷◌}
 use Rattle.tensor_cli.specs.Forms.{vector_form_text}
 use Rattle.tensor_cli.proofs.LineAnswers.{built_answer}
 use Rattle.tensor_cli.proofs.answers.answer_line.Goals as goal

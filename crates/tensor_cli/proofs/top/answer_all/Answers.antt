@@ -1,4 +1,4 @@
-use Rattle.std.proofs.Common.{◌≡◌, ◌+◌, arith, rules, subst, ap, length, length-drop, drop, Err, Ok, List, ℕ}
+use Rattle.std.proofs.Common.{◌≡◌, ◌+◌, arith, rules, subst, ap, length, length-drop, drop, Err}
 use Rattle.tensor_cli.specs.Reads.{HasNoBreak}
 use Rattle.tensor_cli.proofs.Progress.{break_at, started_at, read_on, at_end, let_go, line_done_at, number_le}
 use Rattle.tensor_cli.proofs.Exits.{stops_reading, passes_limit, stops_at_break, stops_at_end, finish_end, finish_line, some_left}
