@@ -45,8 +45,7 @@ pub joined_two : (xs gs : List Operation) (t : Operation) → IsListing comes_be
     → IsListing comes_before (λ k. Generated (λ s. Contains xs s ⊎ (s ≡ t)) k) gs
     → (k : Operation) → Contains gs k ↔ InGroup two_alone k
 joined_two xs gs t one is made k =
-    let made_of = subst (λ x. (k : Operation) → Contains gs k ↔ Generated (λ s. Contains xs s ⊎ (s ≡ x)) k) is made.members in
-    (
+    let made_of = subst (λ x. (k : Operation) → Contains gs k ↔ Generated (λ s. Contains xs s ⊎ (s ≡ x)) k) is made.members in (
       λ c. (two_members k).1 (only_two xs one.members k ((made_of k).0 c)),
       λ g. (made_of k).1 (both_there xs k ((two_members k).0 g)),
     )
