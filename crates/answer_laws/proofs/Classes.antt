@@ -4,22 +4,22 @@
 --   same_class          a class is told by its least state
 --   one_class_list      the classes are told by the two groups and the states
 --   one_pairs_lem       a request for pair classes has one answer, where the second group is below the first
-use Rattle.std.proofs.Common.{◌≡◌, ℕ, zero, suc, ◌+◌, ◌-◌, ◌<◌, ◌≤◌, Bool, true, false, List, [], ◌∷◌, ◌++◌, length, refl}
-use Rattle.std.proofs.Common.{ap, sym, ◌∙◌, arith, ◌⊎◌, inl, inr, subst}
+use Rattle.std.proofs.Common.{◌≡◌, ℕ, zero, suc, ◌-◌, ◌<◌, ◌≤◌, Bool, true, false, List, [], ◌∷◌, ◌++◌, length, refl}
+use Rattle.std.proofs.Common.{ap, sym, ◌∙◌, arith, inl, inr, subst}
 use Rattle.std.specs.Prelude.{Option, Some, None, Contains, IsTrue, nat_lt, get_or, slice_get, ◌↔◌}
 use Rattle.std.proofs.lemmas.Bool.Decides.{nat_tests}
 use Rattle.tensor_defs.specs.Group.{InGroup, IsBelow}
 use Rattle.tensor_defs.specs.Lists.{Each, IsRising, IsListing}
-use Rattle.tensor_defs.specs.Names.{symbols, IsNamed, IsName, IsNameOf}
+use Rattle.tensor_defs.specs.Names.{IsNamed, IsNameOf}
 use Rattle.tensor_defs.specs.Operation.{Operation, IsProduct, identity}
 use Rattle.tensor_defs.specs.OperationOrder.{comes_before}
 use Rattle.tensor_defs.specs.PairClasses.{PairClass, IsPairClass, least_before, ArePairClasses}
-use Rattle.tensor_defs.specs.States.{Times, InDouble, AreStates, IsState, IsSwappable, InPairGroup, InTwinningGroup}
+use Rattle.tensor_defs.specs.States.{InDouble, IsState, IsSwappable, InPairGroup, InTwinningGroup}
 use Rattle.tensor_defs.specs.Symbols.{GroupSymbol}
-use Rattle.tensor_laws.proofs.Associativity.{product_assoc}
+use Rattle.tensor_laws.proofs.Associativity.{product_assoc, product_assoc_back}
 use Rattle.text_defs.specs.AnswerTexts.{pairs_text}
 use Rattle.answer_laws.proofs.DomainStates.{one_state_list}
-use Rattle.answer_laws.proofs.Groups.{IsGroup, assoc_back, one_times, times_one, symbol_group}
+use Rattle.answer_laws.proofs.Groups.{IsGroup, one_times, times_one, symbol_group}
 use Rattle.answer_laws.proofs.Listings.{held_here, held_cases, each_held, rising_same, operations_listed}
 use Rattle.answer_laws.specs.Laws.{OnePairs}
 
@@ -108,7 +108,7 @@ module _ (G F : Operation → Type 0) (whole : IsGroup G) (group : IsGroup F) (b
       let s = group.inverse h.3.0 h.3.1 in
       let n = whole.product k s.0 in_whole (below s.0 s.1) in
       let ahead : IsProduct f.0 k h.1 = product_assoc f.0 h.0 h.1 identity h.1 k f.3 (one_times h.1) h.4 in
-      let back : IsProduct h.1 s.0 g = assoc_back g h.3.0 s.0 h.1 g identity h.3.2 s.2 (times_one g) in
+      let back : IsProduct h.1 s.0 g = product_assoc_back g h.3.0 s.0 h.1 g identity h.3.2 s.2 (times_one g) in
       (f.0, n.0, f.1, (s.0, s.1, n.2), product_assoc f.0 k s.0 h.1 g n.0 ahead back n.2)
 
   state_in : (k : ℕ) (g : Operation) → IsState reps k g → G g

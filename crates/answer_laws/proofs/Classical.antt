@@ -13,8 +13,9 @@ use Rattle.tensor_defs.specs.Operation.{Operation}
 use Rattle.tensor_defs.specs.OperationOrder.{comes_before}
 use Rattle.tensor_defs.specs.Symbols.{GroupSymbol, IsGroupSymbol}
 use Rattle.text_defs.specs.Refusals.{IsOutside}
+use Rattle.tensor_laws.proofs.Products.{both}
 use Rattle.answer_laws.proofs.Groups.{symbol_framed}
-use Rattle.answer_laws.proofs.Listings.{held_here, held_later, held_cases, none_held, each_held, each_from, before_transitive}
+use Rattle.answer_laws.proofs.Listings.{held_here, held_later, held_cases, none_held, each_held, each_from, each_map, before_transitive}
 use Rattle.answer_laws.proofs.Matrices.{frame, marked, InFrame, is_in, same_matrix, same_matrix_true, for_all, is_in_marked, from_test}
 
 abbrev pub NotFalse : Type 0 → Type 0
@@ -77,10 +78,6 @@ unfolding frame comes_before
 all_in_order true = refl
 all_in_order false = refl
 
-both : (a b : Bool) → cond a b false ≡ true → (a ≡ true) × (b ≡ true)
-both true b e = (refl, e)
-both false b e = absurd cc
-
 with_marks : (ks : List Operation) (g : Operation) → is_in ks g ≡ true → Contains (both_marks ks) g
 with_marks [] g e = absurd cc
 with_marks (k ∷ ks) g e = by_case (same_matrix k g) refl (with_marks ks g) e
@@ -108,18 +105,19 @@ frame_held k g f =
     with_marks (sorted (frame k)) g
     (ap (is_in (sorted (frame k))) a.same ∙ is_in_marked (sorted (frame k)) g.primed a.listed ∙ a.passes)
 
-each_map : (P Q : Operation → Type 0) → ((x : Operation) → P x → Q x) → (xs : List Operation) → Each P xs → Each Q xs
-each_map P Q f [] e = tt
-each_map P Q f (x ∷ xs) e = (f x e.0, each_map P Q f xs e.1)
-
 chain_rising : (gs : List Operation) → is_chain gs ≡ true → IsRising comes_before gs
 chain_rising [] e = tt
 chain_rising (g ∷ []) e = (tt, tt)
 chain_rising (g ∷ k ∷ ks) e =
     let a = both (comes_before g k) (is_chain (k ∷ ks)) e in
-    let rest : IsRising comes_before (k ∷ ks) = chain_rising (k ∷ ks) a.1 in
-    ((a.0, each_map (λ x. IsTrue (comes_before k x)) (λ x. IsTrue (comes_before g x))
-    (λ x h. before_transitive g k x a.0 h) ks rest.0), rest)
+    let rest : IsRising comes_before (k ∷ ks) = chain_rising (k ∷ ks) a.1 in (
+      (
+        a.0,
+        each_map (λ x. IsTrue (comes_before k x)) (λ x. IsTrue (comes_before g x))
+            (λ x h. before_transitive g k x a.0 h) ks rest.0,
+      ),
+      rest,
+    )
 
 -- ---- listings
 -- the members of a list that are in a set
@@ -217,15 +215,18 @@ pub outside_or_below : (g f : GroupSymbol) → IsGroupSymbol f →
 outside_or_below g f h fails =
     listed_or f h (λ l. first_or (InGroup g) l.elements (λ t. elim t [
       | inl e ↦ fails (inl (λ k i. each_held (InGroup g) l.elements e k ((l.listing.members k).1 i)))
-      | inr o ↦ fails (inr (length o.earlier + 1, record {
-        elements = l.elements;
-        listing = l.listing;
-        earlier = o.earlier;
-        first = o.first;
-        later = o.later;
-        split = o.split;
-        inside = o.inside;
-        outside = o.outside;
-        place = refl;
-      }))
+      | inr o ↦ fails (inr (
+        length o.earlier + 1,
+        record {
+          elements = l.elements;
+          listing = l.listing;
+          earlier = o.earlier;
+          first = o.first;
+          later = o.later;
+          split = o.split;
+          inside = o.inside;
+          outside = o.outside;
+          place = refl;
+        },
+      ))
     ]))

@@ -3,7 +3,7 @@
 --   row_terms_same      a row has its terms in one way
 --   state_texts_same    the texts of states are told by the states and the table
 --   one_differ_lem      a request for distinguishing components has one answer
-use Rattle.std.proofs.Common.{◌≡◌, ℕ, suc, ◌+◌, ◌<◌, ◌^◌, List, [], ◌∷◌, ◌++◌, length, drop, refl, ap, sym, ◌∙◌, arith, subst}
+use Rattle.std.proofs.Common.{◌≡◌, ℕ, ◌+◌, ◌<◌, ◌^◌, List, [], ◌∷◌, ◌++◌, length, drop, refl, ap, sym, ◌∙◌, arith, subst}
 use Rattle.std.specs.Prelude.{◌≢◌, true, map, codes, IsTrue, Contains, nat_lt}
 use Rattle.std.specs.List.{flat_map}
 use Rattle.std.specs.Fmt.{decimal}
@@ -16,20 +16,19 @@ use Rattle.tensor_defs.specs.Operation.{Operation}
 use Rattle.tensor_defs.specs.Orders.{index_before}
 use Rattle.tensor_defs.specs.StateRows.{factor_at, state_part, sum_of, state_row, RootTerm, root_places_rise, IsStateRow}
 use Rattle.tensor_defs.specs.StateRows.{Distinguishes}
-use Rattle.tensor_defs.specs.Symbols.{GroupSymbol}
 use Rattle.tensor_defs.specs.Table.{Table}
 use Rattle.tensor_defs.specs.Tensor.{Index, Marks, indices, sign, coefficient}
 use Rattle.tensor_laws.proofs.IndexOrder.{index_order}
 use Rattle.tensor_laws.proofs.Unique.{same_free, same_terms}
-use Rattle.text_defs.specs.AnswerTexts.{line_of, equation, component_name, named_roots, free_names, state_text}
+use Rattle.text_defs.specs.AnswerTexts.{line_of, equation, component_name, named_roots, state_text}
 use Rattle.text_defs.specs.AnswerTexts.{or_none}
 use Rattle.text_defs.specs.GroupTexts.{group_text}
 use Rattle.text_defs.specs.JahnTexts.{jahn_text}
-use Rattle.text_defs.specs.Answers.{IsStateText, AreStateTexts, IsDifferText}
+use Rattle.text_defs.specs.Answers.{IsStateText, AreStateTexts}
 use Rattle.answer_laws.proofs.DomainStates.{one_state_list}
 use Rattle.answer_laws.proofs.Forms.{flat_map_same, indices_of_rank}
 use Rattle.answer_laws.proofs.Groups.{symbol_group}
-use Rattle.answer_laws.proofs.Listings.{each_held, each_from, rising_same, listing_same}
+use Rattle.answer_laws.proofs.Listings.{each_map, each_held, each_from, rising_same, listing_same}
 use Rattle.answer_laws.proofs.Roots.{one_root}
 use Rattle.answer_laws.specs.Laws.{OneDiffer}
 
@@ -37,10 +36,6 @@ use Rattle.answer_laws.specs.Laws.{OneDiffer}
 sum_same : (f g : Index → Number) (js : List Index) → Each (λ j. f j ≡ g j) js → sum_of f js ≡ sum_of g js
 sum_same f g [] e = refl
 sum_same f g (j ∷ js) e = λ i. add (e.0 i) (sum_same f g js e.1 i)
-
-each_map : {X : Type 0} (P Q : X → Type 0) → ((x : X) → P x → Q x) → (xs : List X) → Each P xs → Each Q xs
-each_map P Q f [] e = tt
-each_map P Q f (x ∷ xs) e = (f x e.0, each_map P Q f xs e.1)
 
 place_irreflexive : (t : RootTerm) → ¬ IsTrue (root_places_rise t t)
 place_irreflexive t h = below t.place h

@@ -7,11 +7,12 @@ use Rattle.std.specs.Prelude.{Contains, IsTrue}
 use Rattle.std.proofs.lemmas.Bool.Decides.{eqb_tells}
 use lib.IntN.{ℤ, pos, negsuc}
 use Rattle.tensor_defs.specs.Group.{InGroup}
-use Rattle.tensor_defs.specs.Operation.{Entry, Row, Operation, IsProduct, identity}
+use Rattle.tensor_defs.specs.Operation.{Entry, Row, Operation, identity}
 use Rattle.tensor_defs.specs.OperationOrder.{comes_before}
 use Rattle.tensor_defs.specs.States.{Times, AreStates}
+use Rattle.tensor_laws.proofs.Associativity.{product_assoc_back}
 use Rattle.text_defs.specs.AnswerTexts.{states_text}
-use Rattle.answer_laws.proofs.Groups.{IsGroup, assoc_back, times_one, symbol_group}
+use Rattle.answer_laws.proofs.Groups.{IsGroup, times_one, symbol_group}
 use Rattle.answer_laws.proofs.Listings.{each_held, rising_same, before_irreflexive, before_transitive}
 use Rattle.answer_laws.specs.Laws.{OneStates}
 
@@ -81,7 +82,7 @@ same_operation g k =
 pub coset_sym : (F : Operation → Type 0) → IsGroup F → (g k : Operation) → Times g F k → Times k F g
 coset_sym F group g k h =
     let back = group.inverse h.0 h.1 in
-    (back.0, back.1, assoc_back g h.0 back.0 k g identity h.2 back.2 (times_one g))
+    (back.0, back.1, product_assoc_back g h.0 back.0 k g identity h.2 back.2 (times_one g))
 
 module _ (G F : Operation → Type 0) (group : IsGroup F) where
   states_within : (rs ss : List Operation) → AreStates G F rs → AreStates G F ss → (r : Operation) →

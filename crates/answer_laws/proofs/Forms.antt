@@ -21,6 +21,7 @@ use Rattle.text_defs.specs.AnswerTexts.{line_of, row_text, has_index, component_
 use Rattle.text_defs.specs.AnswerTexts.{form_text}
 use Rattle.text_defs.specs.GroupTexts.{group_text}
 use Rattle.text_defs.specs.JahnTexts.{jahn_text}
+use Rattle.answer_laws.proofs.Listings.{each_map, each_append}
 use Rattle.answer_laws.specs.Laws.{OneForm}
 
 pub flat_map_same : {X : Type 0} (f g : X → List ℕ) (xs : List X) → Each (λ x. f x ≡ g x) xs →
@@ -29,10 +30,6 @@ flat_map_same f g [] e = refl
 flat_map_same f g (x ∷ xs) e = λ i. e.0 i ++ flat_map_same f g xs e.1 i
 
 -- ---- indices
-each_append : {X : Type 0} (P : X → Type 0) (xs ys : List X) → Each P xs → Each P ys → Each P (xs ++ ys)
-each_append P [] ys p q = q
-each_append P (x ∷ xs) ys p q = (p.0, each_append P xs ys p.1 q)
-
 put_before : (r : ℕ) (a : Axis) (cs : List Index) → Each (λ c. length c ≡ r) cs →
     Each (λ c. length c ≡ suc r) (map (λ js. a ∷ js) cs)
 put_before r a [] e = tt
@@ -51,10 +48,6 @@ pub component_line_same : (a b : Table) (c : Index) → a.free ≡ b.free → a.
     component_line a c ≡ component_line b c
 component_line_same a b c f t =
     λ i. row_text (has_index (f i) c) (component_name c) (named (map component_name (f i)) (t i))
-
-each_map : {X : Type 0} (P Q : X → Type 0) → ((x : X) → P x → Q x) → (xs : List X) → Each P xs → Each Q xs
-each_map P Q f [] e = tt
-each_map P Q f (x ∷ xs) e = (f x e.0, each_map P Q f xs e.1)
 
 pub table_text_same : (r : ℕ) (a b : Table) → a.free ≡ b.free →
     ((c : Index) → length c ≡ r → a.terms c ≡ b.terms c) → table_text r a ≡ table_text r b

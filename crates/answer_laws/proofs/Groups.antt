@@ -1,16 +1,15 @@
 -- The group of a symbol is a group.
 --   IsGroup             the identity, products and inverses of its members are members
 --   one_times, times_one    the identity times an operation, and an operation times the identity
---   assoc_back          (g·h)·k where g·(h·k) is known
 --   symbol_group, symbol_framed    the group of a symbol is a group, and lies in one frame
 --   spelled_symbol      a text spells symbols that keep the rules
-use Rattle.std.proofs.Common.{◌≡◌, ℕ, zero, suc, ◌==◌, ◌%◌, ◌/◌, ◌<◌, ◌≤◌, Bool, true, false, cond, List, [], ◌∷◌, ◌++◌}
-use Rattle.std.proofs.Common.{refl, ap, sym, ◌∙◌, arith, subst, inl, inr, lit<, lit≤}
+use Rattle.std.proofs.Common.{◌≡◌, ℕ, zero, suc, ◌==◌, ◌%◌, ◌/◌, ◌<◌, Bool, true, false, cond, List, [], ◌∷◌, ◌++◌}
+use Rattle.std.proofs.Common.{refl, sym, ◌∙◌, arith, subst, inl, inr, lit<, lit≤}
 use Rattle.std.specs.Prelude.{Option, Some, None, Contains}
 use Rattle.std.proofs.lemmas.Bool.{cases_lt}
 use mathlib.Core.Bool.{xor}
 use lib.IntN.{pos}
-use Rattle.number_laws.proofs.NumberLaws.{ring, num_add-zero, num_zero-add, num_one-mul, num_mul-one, num_zero-mul, num_mul-zero}
+use Rattle.number_laws.proofs.NumberLaws.{num_add-zero, num_zero-add, num_one-mul, num_mul-one, num_zero-mul, num_mul-zero}
 use Rattle.tensor_defs.specs.declared.Setting.{Setting}
 use Rattle.tensor_defs.specs.declared.Setting.TheVariants as setting
 use Rattle.tensor_defs.specs.Group.{InGroup, IsProductOf, Generated}
@@ -19,10 +18,10 @@ use Rattle.tensor_defs.specs.Number.{Number, add, mul, half_of, num_zero, num_on
 use Rattle.tensor_defs.specs.Operation.{Axis, x1, x2, x3, Operation, value, sum_axes, IsProduct, identity, reversal}
 use Rattle.tensor_defs.specs.Symbols.{operation_of, turned_to, takes_setting, Operator, parent_operators, operations_of}
 use Rattle.tensor_defs.specs.Symbols.{listed, generators, GroupSymbol, IsGroupSymbol}
-use Rattle.tensor_laws.proofs.Associativity.{product_assoc}
-use Rattle.tensor_laws.proofs.Products.{product_unique, generated_within}
+use Rattle.tensor_laws.proofs.Associativity.{product_assoc, product_assoc_back}
+use Rattle.tensor_laws.proofs.Products.{both, product_unique, generated_within}
 use Rattle.text_defs.specs.GroupTexts.{SpellsGroup, grey_one}
-use Rattle.answer_laws.proofs.Listings.{each_held}
+use Rattle.answer_laws.proofs.Listings.{each_held, each_append}
 use Rattle.answer_laws.proofs.Matrices.{is_in, turns, InFrame, IsTurn, one_in_frame, turn_times, power_back}
 
 -- ---- the identity and associativity
@@ -120,41 +119,6 @@ times_one g = record { entries = entries; marks = xor_false g.primed }
         ∙ sym (λ n. add (mul (value g i x1) (value_13 n)) (add (mul (value g i x2) (value_23 n))
         (mul (value g i x3) (on_diagonal x3 n))))
 
-xor_assoc : (a b c : Bool) → xor (xor a b) c ≡ xor a (xor b c)
-unfolding xor
-xor_assoc true true true = refl
-xor_assoc true true false = refl
-xor_assoc true false true = refl
-xor_assoc true false false = refl
-xor_assoc false true true = refl
-xor_assoc false true false = refl
-xor_assoc false false true = refl
-xor_assoc false false false = refl
-
-exchange : (a b c p q r s t u v w x y1 y2 y3 : Number) →
-    add (mul (add (mul a p) (add (mul b s) (mul c v))) y1)
-    (add (mul (add (mul a q) (add (mul b t) (mul c w))) y2)
-    (mul (add (mul a r) (add (mul b u) (mul c x))) y3))
-    ≡ add (mul a (add (mul p y1) (add (mul q y2) (mul r y3))))
-    (add (mul b (add (mul s y1) (add (mul t y2) (mul u y3))))
-    (mul c (add (mul v y1) (add (mul w y2) (mul x y3)))))
-exchange a b c p q r s t u v w x y1 y2 y3 = simp ring
-
--- with g·h = a and h·k = c, what g·c is (g·h)·k is
-pub assoc_back : (g h k a b c : Operation) → IsProduct g h a → IsProduct h k c → IsProduct g c b → IsProduct a k b
-assoc_back g h k a b c p r q = record {
-  entries = λ i j.
-      q.entries i j
-      ∙ (λ n. sum_axes (λ m. mul (value g i m) (r.entries m j n)))
-      ∙ sym (exchange (value g i x1) (value g i x2) (value g i x3) (value h x1 x1) (value h x1 x2) (value h x1 x3)
-      (value h x2 x1) (value h x2 x2) (value h x2 x3) (value h x3 x1) (value h x3 x2) (value h x3 x3)
-      (value k x1 j) (value k x2 j) (value k x3 j))
-      ∙ sym (λ n. sum_axes (λ m. mul (p.entries i m n) (value k m j)));
-  marks =
-      q.marks ∙ ap (xor g.primed) r.marks ∙ sym (xor_assoc g.primed h.primed k.primed)
-      ∙ ap (λ x. xor x k.primed) (sym p.marks);
-}
-
 -- ---- groups
 pub record IsGroup (S : Operation → Type 0) : Type 0 where
   pub one : S identity
@@ -174,7 +138,7 @@ module _ (k : Bool) (S : Operation → Type 0) (turn : (g : Operation) → S g �
   times_exists (s ∷ gs) g l e is f =
       let rest = times_exists gs is.0 l e.1 is.1 f in
       let whole = turn_times k s rest.0 (turn s e.0) rest.1 in
-      (whole.0, whole.1, assoc_back s is.0 l g whole.0 rest.0 is.2 rest.2 whole.2)
+      (whole.0, whole.1, product_assoc_back s is.0 l g whole.0 rest.0 is.2 rest.2 whole.2)
 
   joined : (gs hs : List Operation) (g l m : Operation) → Each S gs → IsProductOf gs g → IsProductOf hs l →
       InFrame k l → IsProduct g l m → IsProductOf (gs ++ hs) m
@@ -182,20 +146,15 @@ module _ (k : Bool) (S : Operation → Type 0) (turn : (g : Operation) → S g �
       subst (IsProductOf hs)
       (product_unique identity l l m (one_times l) (subst (λ x. IsProduct x l m) is p)) of
   joined (s ∷ gs) hs g l m e is of f p =
-      let rest = times_exists gs is.0 l e.1 is.1 f in
-      (
+      let rest = times_exists gs is.0 l e.1 is.1 f in (
         rest.0,
         joined gs hs is.0 l rest.0 e.1 is.1 of f rest.2,
         product_assoc s is.0 l g m rest.0 is.2 p rest.2,
       )
 
-  each_joined : (gs hs : List Operation) → Each S gs → Each S hs → Each S (gs ++ hs)
-  each_joined [] hs p q = q
-  each_joined (s ∷ gs) hs p q = (p.0, each_joined gs hs p.1 q)
-
   pub product_within : (g l m : Operation) → Generated S g → Generated S l → IsProduct g l m → Generated S m
   product_within g l m p q is =
-      (p.0 ++ q.0, each_joined p.0 q.0 p.1 q.1, joined p.0 q.0 g l m p.1 p.2 q.2 (within_frame l q) is)
+      (p.0 ++ q.0, each_append S p.0 q.0 p.1 q.1, joined p.0 q.0 g l m p.1 p.2 q.2 (within_frame l q) is)
 
   right_inverse : (g : Operation) → Generated S g → (c : Operation) × Generated S c × IsProduct g c identity
   right_inverse g h =
@@ -244,10 +203,6 @@ all_framed setting.XY = refl
 all_framed setting.D = refl
 all_framed setting.P = refl
 
-both : (a b : Bool) → cond a b false ≡ true → (a ≡ true) × (b ≡ true)
-both true b e = (refl, e)
-both false b e = absurd cc
-
 below_at : (m : ℕ) (p : ℕ → Bool) → below m p ≡ true → (n : ℕ) → n < m → p n ≡ true
 below_at zero p e n lt = absurd (omega arith)
 below_at (suc m) p e n lt = elim (cases_lt n m) [
@@ -258,10 +213,6 @@ below_at (suc m) p e n lt = elim (cases_lt n m) [
 listed_fits : (L : List Operation) (o : Option Operation) → passes L o ≡ true → Each (λ g. is_in L g ≡ true) (listed o)
 listed_fits L None e = tt
 listed_fits L (Some g) e = (e, tt)
-
-each_append : (P : Operation → Type 0) (xs ys : List Operation) → Each P xs → Each P ys → Each P (xs ++ ys)
-each_append P [] ys p q = q
-each_append P (x ∷ xs) ys p q = (p.0, each_append P xs ys p.1 q)
 
 operations_fit : (k : Bool) (s : Setting) (primes : ℕ) (os : List Operator) → all_fit k s os ≡ true →
     Each (IsTurn k) (operations_of s primes os)

@@ -12,3 +12,4 @@ pub mod Roots
 pub mod Differences
 pub mod Classes
 pub mod Classical
+pub mod Outputs

@@ -3,14 +3,13 @@
 --   one_form_answer_lem, one_group_answer_lem    lines that spell a request for a form or for a group
 --   below_unrefused     the second group of a request for classes that isn't refused is below the first
 --   one_answer_lem      a line has one answer
-use Rattle.std.proofs.Common.{◌≡◌, ℕ, ◌<◌, ◌≤◌, List, [], ◌∷◌, length, refl, sym, ◌∙◌, ◌⊎◌, inl, inr, subst}
+use Rattle.std.proofs.Common.{◌≡◌, ℕ, ◌≤◌, List, [], ◌∷◌, length, refl, sym, ◌∙◌, ◌⊎◌, inl, inr, subst}
 use Rattle.std.proofs.lemmas.Bool.{cases_lt}
 use Rattle.tensor_defs.specs.Group.{InGroup, IsAccepted, IsBelow}
 use Rattle.tensor_defs.specs.Lists.{Each}
 use Rattle.tensor_defs.specs.Symbols.{IsGroupSymbol}
-use Rattle.text_defs.specs.Answers.{AnswersRequest, IsAnswer}
-use Rattle.text_defs.specs.Refusals.{RefusalWord, Long, Primes, NotSub, FirstRefused, Refuses, refusal_text, groups_of}
-use Rattle.text_defs.specs.Refusals.{IsOutside}
+use Rattle.text_defs.specs.Answers.{AnswersRequest}
+use Rattle.text_defs.specs.Refusals.{RefusalWord, Long, Primes, NotSub, FirstRefused, Refuses, refusal_text}
 use Rattle.text_defs.specs.Requests.{GroupAt, Request, SpellsRequest}
 use Rattle.text_defs.specs.Requests.Request.{Form, Group, Voigt, States, Pairs, Differ, Same}
 use Rattle.text_laws.proofs.RequestUnique.{one_request_spelled}

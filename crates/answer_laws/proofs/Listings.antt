@@ -1,11 +1,11 @@
 -- Members of lists, and that a set has one listing.
 --   held_here, held_later, held_cases, none_held    what a list with a first element holds
---   each_held, each_from    a fact of each element
+--   each_held, each_from, each_map, each_append    a fact of each element
 --   rising_same         rising lists with the same members are one list
 --   listing_same        a set has one listing in an order without circles
 --   operations_listed   ... in the order of operations
 use Rattle.std.proofs.Common.{◌≡◌, zero, suc, Bool, List, [], ◌∷◌, refl, sym, ◌∙◌, arith, ◌⊎◌, inl, inr, subst}
-use Rattle.std.specs.Prelude.{Contains, IsTrue}
+use Rattle.std.specs.Prelude.{◌++◌, Contains, IsTrue}
 use Rattle.tensor_defs.specs.Group.{InGroup}
 use Rattle.tensor_defs.specs.Lists.{Each, IsRising, IsListing}
 use Rattle.tensor_defs.specs.Operation.{Operation}
@@ -36,6 +36,14 @@ each_held P (y ∷ xs) e x c = elim (held_cases x y xs c) [
 pub each_from : {X : Type 0} (P : X → Type 0) (xs : List X) → ((x : X) → Contains xs x → P x) → Each P xs
 each_from P [] f = tt
 each_from P (y ∷ xs) f = (f y (held_here y xs), each_from P xs (λ x c. f x (held_later x y xs c)))
+
+pub each_map : {X : Type 0} (P Q : X → Type 0) → ((x : X) → P x → Q x) → (xs : List X) → Each P xs → Each Q xs
+each_map P Q f [] e = tt
+each_map P Q f (x ∷ xs) e = (f x e.0, each_map P Q f xs e.1)
+
+pub each_append : {X : Type 0} (P : X → Type 0) (xs ys : List X) → Each P xs → Each P ys → Each P (xs ++ ys)
+each_append P [] ys p q = q
+each_append P (x ∷ xs) ys p q = (p.0, each_append P xs ys p.1 q)
 
 -- ---- rising lists
 module _ {X : Type 0} (before : X → X → Bool) (irr : (x : X) → ¬ IsTrue (before x x)) (trans : (x y z : X) →

@@ -3,17 +3,16 @@
 --   InFrame, IsTurn     an operation has such a matrix, whatever its mark
 --   turn_times          an operation of a symbol times one of the frame is one of the frame
 --   power_back          some power of an operation of the frame is its inverse
-use Rattle.std.proofs.Common.{◌≡◌, ℕ, zero, suc, ◌+◌, ◌/◌, Bool, true, false, cond, List, [], ◌∷◌, ◌++◌, refl, ap, sym, ◌∙◌}
-use Rattle.std.proofs.Common.{arith, subst, nat_eq}
+use Rattle.std.proofs.Common.{◌≡◌, ℕ, zero, suc, ◌+◌, ◌/◌, Bool, true, false, cond, List, [], ◌∷◌, ◌++◌, refl, sym, ◌∙◌}
+use Rattle.std.proofs.Common.{subst}
 use Rattle.std.specs.Prelude.{map}
 use mathlib.Core.Bool.{xor}
 use lib.IntN.{ℤ, pos, negsuc, ◌+ℤ◌, neg_ℤ}
-use Rattle.std.proofs.lemmas.Bool.Decides.{nat_tests}
 use Rattle.tensor_defs.specs.Number.{mul}
 use Rattle.tensor_defs.specs.Operation.{Axis, x1, x2, x3, Entry, Row, Operation, matrix, one, nought, minus_one}
-use Rattle.tensor_defs.specs.Operation.{half, minus_half, h, minus_h, identity, reversal, value, sum_axes, IsProduct}
+use Rattle.tensor_defs.specs.Operation.{half, minus_half, h, minus_h, identity, value, sum_axes, IsProduct}
 use Rattle.tensor_defs.specs.OperationOrder.{same_int, same_entry}
-use Rattle.tensor_laws.proofs.Products.{rational_part, root_part, product_test, product_tested}
+use Rattle.tensor_laws.proofs.Products.{both, same_int_true, rational_part, root_part, product_test, product_tested}
 
 -- ---- the same matrix with a mark
 abbrev pub marked : Bool → Operation → Operation
@@ -42,19 +41,6 @@ same_row r s =
 abbrev pub same_matrix : Operation → Operation → Bool
 same_matrix g k =
     cond (same_row g.row_1 k.row_1) (cond (same_row g.row_2 k.row_2) (same_row g.row_3 k.row_3) false) false
-
-both : (a b : Bool) → cond a b false ≡ true → (a ≡ true) × (b ≡ true)
-both true b e = (refl, e)
-both false b e = absurd cc
-
-nat_eq_means : (a b : ℕ) → nat_eq a b ≡ true → a ≡ b
-nat_eq_means a b e = grind (arith, nat_tests)
-
-same_int_true : (a b : ℤ) → same_int a b ≡ true → a ≡ b
-same_int_true (pos a) (pos b) e = ap pos (nat_eq_means a b e)
-same_int_true (pos a) (negsuc b) e = absurd cc
-same_int_true (negsuc a) (pos b) e = absurd cc
-same_int_true (negsuc a) (negsuc b) e = ap negsuc (nat_eq_means a b e)
 
 same_entry_true : (e f : Entry) → same_entry e f ≡ true → e ≡ f
 same_entry_true e f t =

@@ -3,12 +3,11 @@
 --   one_blocks          a symbol has its blocks in one way
 --   weighted_same       the terms of an entry are told by those of its component
 --   one_voigt_lem       a request for a Voigt table has one answer
-use Rattle.std.proofs.Common.{◌≡◌, ℕ, ◌+◌, Bool, true, false, cond, List, [], ◌∷◌, ◌++◌, length, replicate, get_or, refl, ap, sym}
-use Rattle.std.proofs.Common.{◌∙◌, arith, subst}
+use Rattle.std.proofs.Common.{◌≡◌, ℕ, Bool, true, false, cond, List, [], ◌∷◌, ◌++◌, length, replicate, get_or, refl, ap, sym}
+use Rattle.std.proofs.Common.{◌∙◌, subst}
 use Rattle.std.specs.Prelude.{map, codes, nat_eq, Contains}
 use Rattle.std.specs.List.{flat_map}
 use Rattle.std.specs.Fmt.{decimal}
-use Rattle.std.proofs.lemmas.Bool.Decides.{nat_tests}
 use Rattle.number_laws.proofs.Limit.{one_fraction}
 use Rattle.tensor_defs.specs.declared.Weights.{Weights}
 use Rattle.tensor_defs.specs.Group.{InGroup}
@@ -16,11 +15,12 @@ use Rattle.tensor_defs.specs.Jahn.{Atom, V, Bracketed, Factor, JahnSymbol, rank,
 use Rattle.tensor_defs.specs.Lists.{Each}
 use Rattle.tensor_defs.specs.Operation.{Operation}
 use Rattle.tensor_defs.specs.Symbols.{GroupSymbol}
-use Rattle.tensor_defs.specs.Table.{Term, Table, factor_of, IsProper}
+use Rattle.tensor_defs.specs.Table.{Term, Table, factor_of}
 use Rattle.tensor_defs.specs.Orders.{block_numbers, block_before}
 use Rattle.tensor_defs.specs.Voigt.{VoigtShape, voigt_shapes, HasBlocks, VoigtEntry, entries, rank_of_blocks, component_of}
-use Rattle.tensor_defs.specs.Voigt.{weighted, free_entry, AreWeighted, VoigtTable, IsVoigtTable}
+use Rattle.tensor_defs.specs.Voigt.{weighted, AreWeighted, VoigtTable, IsVoigtTable}
 use Rattle.tensor_laws.proofs.BlockOrder.{block_order}
+use Rattle.tensor_laws.proofs.Products.{nat_eq_means}
 use Rattle.tensor_laws.proofs.Unique.{same_free, same_terms}
 use Rattle.text_defs.specs.AnswerTexts.{line_of, row_text, weights_word, has_entry, entry_name, named, entry_line, voigt_text}
 use Rattle.text_defs.specs.GroupTexts.{group_text}
@@ -75,9 +75,6 @@ shape_known fs bs h = each_held ShapeFacts voigt_shapes shapes_known (record { f
 -- a symbol has its blocks in one way
 pub one_blocks : (fs : List Factor) (bs cs : List ℕ) → HasBlocks fs bs → HasBlocks fs cs → bs ≡ cs
 one_blocks fs bs cs p q = sym (shape_known fs bs p).blocks ∙ (shape_known fs cs q).blocks
-
-nat_eq_means : (a b : ℕ) → nat_eq a b ≡ true → a ≡ b
-nat_eq_means a b e = grind (arith, nat_tests)
 
 each_tested : (bs : List ℕ) (es : List VoigtEntry) → all_of es (has_rank bs) ≡ true →
     Each (λ e. length (component_of bs e) ≡ rank_of_blocks bs) es

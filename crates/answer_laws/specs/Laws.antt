@@ -10,6 +10,7 @@
 --                   group is below the first
 --   LineHasOneAnswer    a line has one answer at each number
 --   OneAnswer       a line of a number has one answer
+--   OneOutput       an input has one output: the answers of its lines
 --   OneFormAnswer, OneGroupAnswer    a line that spells a request for a form, or for a group, has one answer
 use Rattle.std.specs.Prelude.{◌≡◌, ℕ, List}
 use Rattle.tensor_defs.specs.declared.Weights.{Weights}
@@ -19,6 +20,7 @@ use Rattle.tensor_defs.specs.OperationOrder.{comes_before}
 use Rattle.tensor_defs.specs.Group.{InGroup, IsBelow}
 use Rattle.tensor_defs.specs.Symbols.{GroupSymbol, IsGroupSymbol}
 use Rattle.text_defs.specs.Answers.{AnswersRequest, IsAnswer}
+use Rattle.text_defs.specs.Lines.{AreAnswersOf}
 use Rattle.text_defs.specs.Refusals.{RefusalWord, Refuses}
 use Rattle.text_defs.specs.Requests.{GroupAt, JahnAt, Request, SpellsRequest}
 use Rattle.text_defs.specs.Requests.Request.{Form, Group, Voigt, States, Pairs, Differ, Same}
@@ -71,3 +73,6 @@ OneGroupAnswer = (line : List ℕ) (g : GroupAt) → SpellsRequest line (Group g
 
 abbrev pub OneAnswer : Type 0
 OneAnswer = (number : ℕ) (line a b : List ℕ) → IsAnswer number line a → IsAnswer number line b → a ≡ b
+
+abbrev pub OneOutput : Type 0
+OneOutput = (input a b : List ℕ) → AreAnswersOf IsAnswer input a → AreAnswersOf IsAnswer input b → a ≡ b

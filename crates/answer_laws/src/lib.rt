@@ -1,7 +1,7 @@
 //! Laws of answers: at most one refusal applies to a line, and a line has one answer.
 #![tactic(auto)]
 
-ghost use Rattle.answer_laws.specs.Laws.{OneAnswer, OneDiffer, OneForm, OneFormAnswer, OneGroup, OneGroupAnswer, OneListing, OnePairs, OneRefusal, OneSame, OneStates, OneVoigt};
+ghost use Rattle.answer_laws.specs.Laws.{OneAnswer, OneDiffer, OneForm, OneFormAnswer, OneGroup, OneGroupAnswer, OneListing, OneOutput, OnePairs, OneRefusal, OneSame, OneStates, OneVoigt};
 
 /// The group of a symbol has one listing in the order of operations.
 pub fn one_listing()
@@ -61,4 +61,9 @@ pub fn one_group_answer()
 /// A line has one answer.
 pub fn one_answer()
     ensures { OneAnswer }
+{}
+
+/// An input has one output: the answers of its lines.
+pub fn one_output()
+    ensures { OneOutput }
 {}
