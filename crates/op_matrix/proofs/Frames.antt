@@ -1,11 +1,13 @@
 -- Plain, diagonal and hexagonal, by computing.
-use Rattle.std.proofs.Common.{◌≡◌, ◌≢◌, ℕ, zero, suc, ◌+◌, ◌*◌, ◌<◌, Bool, true, false, List, [], ◌∷◌, refl, ap, sym, ◌∙◌, arith, subst, lit<, cond, ◌⊎◌, inl, inr}
-use Rattle.std.specs.Prelude.{nat_eq, nat_lt, IsTrue}
+use Rattle.std.proofs.Common.{◌≡◌, ◌≢◌, ℕ, Bool, true, false, refl, ap, sym}
+use Rattle.std.proofs.Common.{arith, subst, cond, ◌⊎◌, inl, inr}
+use Rattle.std.specs.Prelude.{nat_eq}
 use Rattle.std.proofs.lemmas.Bool.Decides.{nat_tests}
 use lib.IntN.{ℤ, pos, negsuc}
-use Rattle.tensor_defs.specs.Operation.{Axis, x1, x2, x3, Entry, Row, Operation, entry, in_row, identity, one, nought, minus_one}
+use Rattle.tensor_defs.specs.Operation.{Axis, x1, x2, x3, Entry, Operation, entry, one, nought}
+use Rattle.tensor_defs.specs.Operation.{minus_one}
 use Rattle.tensor_defs.specs.OperationOrder.{same_int, same_entry}
-use Rattle.tensor_defs.specs.Frames.{IsUnit, OneUnit, IsPlain, IsDiagonal, IsHexagonal}
+use Rattle.tensor_defs.specs.Frames.{IsUnit, OneUnit, IsPlain, IsDiagonal}
 use Rattle.op_matrix.specs.Tests.{both, nat_eq_means}
 
 -- ---- the test of sameness
@@ -62,31 +64,42 @@ unit_of e (inl h) = either_left _ _ (same_entry_of e one h)
 unit_of e (inr h) = either_right (same_entry e one) _ (same_entry_of e minus_one h)
 
 unit_told : (e : Entry) → unit_test e ≡ true → IsUnit e
-unit_told e h = elim (either_told (same_entry e one) (same_entry e minus_one) h) [ inl p ↦ inl (same_entry_true e one p) | inr p ↦ inr (same_entry_true e minus_one p) ]
+unit_told e h = elim (either_told (same_entry e one) (same_entry e minus_one) h)
+    [ inl p ↦ inl (same_entry_true e one p) | inr p ↦ inr (same_entry_true e minus_one p) ]
 
 abbrev zero_test : Entry → Bool
 zero_test e = same_entry e nought
 
 abbrev one_unit_test : Entry → Entry → Entry → Bool
-one_unit_test a b c = either (also (unit_test a) (also (zero_test b) (zero_test c))) (either (also (zero_test a) (also (unit_test b) (zero_test c))) (also (zero_test a) (also (zero_test b) (unit_test c))))
+one_unit_test a b c = either (also (unit_test a) (also (zero_test b) (zero_test c)))
+    (either (also (zero_test a) (also (unit_test b) (zero_test c)))
+    (also (zero_test a) (also (zero_test b) (unit_test c))))
 
 pub three : (a b c : Bool) → a ≡ true → b ≡ true → c ≡ true → also a (also b c) ≡ true
 three a b c p q r = also_of a (also b c) p (also_of b c q r)
 
 pub three_told : (a b c : Bool) → also a (also b c) ≡ true → (a ≡ true) × (b ≡ true) × (c ≡ true)
-three_told a b c e = let p : (a ≡ true) × (also b c ≡ true) = both a (also b c) e in let q : (b ≡ true) × (c ≡ true) = both b c p.1 in (p.0, q.0, q.1)
+three_told a b c e = let p : (a ≡ true) × (also b c ≡ true) = both a (also b c) e in let q : (b ≡ true) × (c ≡ true) =
+    both b c p.1 in (p.0, q.0, q.1)
 
 one_unit_of : (a b c : Entry) → OneUnit a b c → one_unit_test a b c ≡ true
-one_unit_of a b c (inl h) = either_left _ _ (three _ _ _ (unit_of a h.0) (same_entry_of b nought h.1) (same_entry_of c nought h.2))
-one_unit_of a b c (inr (inl h)) = either_right (also (unit_test a) (also (zero_test b) (zero_test c))) _ (either_left _ _ (three _ _ _ (same_entry_of a nought h.0) (unit_of b h.1) (same_entry_of c nought h.2)))
-one_unit_of a b c (inr (inr h)) = either_right (also (unit_test a) (also (zero_test b) (zero_test c))) _ (either_right (also (zero_test a) (also (unit_test b) (zero_test c))) _ (three _ _ _ (same_entry_of a nought h.0) (same_entry_of b nought h.1) (unit_of c h.2)))
+one_unit_of a b c (inl h) = either_left _ _ (three _ _ _ (unit_of a h.0) (same_entry_of b nought h.1)
+    (same_entry_of c nought h.2))
+one_unit_of a b c (inr (inl h)) = either_right (also (unit_test a) (also (zero_test b) (zero_test c))) _
+    (either_left _ _ (three _ _ _ (same_entry_of a nought h.0) (unit_of b h.1) (same_entry_of c nought h.2)))
+one_unit_of a b c (inr (inr h)) = either_right (also (unit_test a) (also (zero_test b) (zero_test c))) _
+    (either_right (also (zero_test a) (also (unit_test b) (zero_test c))) _
+    (three _ _ _ (same_entry_of a nought h.0) (same_entry_of b nought h.1) (unit_of c h.2)))
 
 one_unit_told : (a b c : Entry) → one_unit_test a b c ≡ true → OneUnit a b c
 one_unit_told a b c e = elim (either_told (also (unit_test a) (also (zero_test b) (zero_test c))) _ e) [
-  | inl p ↦ (let t : (_ ≡ true) × (_ ≡ true) × (_ ≡ true) = three_told (unit_test a) (zero_test b) (zero_test c) p in inl (unit_told a t.0, same_entry_true b nought t.1, same_entry_true c nought t.2))
+  | inl p ↦ (let t : (_ ≡ true) × (_ ≡ true) × (_ ≡ true) = three_told (unit_test a) (zero_test b) (zero_test c) p in
+      inl (unit_told a t.0, same_entry_true b nought t.1, same_entry_true c nought t.2))
   | inr q ↦ elim (either_told (also (zero_test a) (also (unit_test b) (zero_test c))) _ q) [
-    | inl p ↦ (let t : (_ ≡ true) × (_ ≡ true) × (_ ≡ true) = three_told (zero_test a) (unit_test b) (zero_test c) p in inr (inl (same_entry_true a nought t.0, unit_told b t.1, same_entry_true c nought t.2)))
-    | inr p ↦ (let t : (_ ≡ true) × (_ ≡ true) × (_ ≡ true) = three_told (zero_test a) (zero_test b) (unit_test c) p in inr (inr (same_entry_true a nought t.0, same_entry_true b nought t.1, unit_told c t.2)))
+    | inl p ↦ (let t : (_ ≡ true) × (_ ≡ true) × (_ ≡ true) = three_told (zero_test a) (unit_test b) (zero_test c) p in
+        inr (inl (same_entry_true a nought t.0, unit_told b t.1, same_entry_true c nought t.2)))
+    | inr p ↦ (let t : (_ ≡ true) × (_ ≡ true) × (_ ≡ true) = three_told (zero_test a) (zero_test b) (unit_test c) p in
+        inr (inr (same_entry_true a nought t.0, same_entry_true b nought t.1, unit_told c t.2)))
   ]
 ]
 
@@ -112,16 +125,23 @@ abbrev pub plain_test : Operation → Bool
 plain_test g = also (each_axis (row_unit g)) (each_axis (column_unit g))
 
 pub plain_of : (g : Operation) → IsPlain g → plain_test g ≡ true
-plain_of g h = also_of (each_axis (row_unit g)) _ (each_axis_of (row_unit g) (λ i. one_unit_of (entry g i x1) (entry g i x2) (entry g i x3) (h.rows i))) (each_axis_of (column_unit g) (λ j. one_unit_of (entry g x1 j) (entry g x2 j) (entry g x3 j) (h.columns j)))
+plain_of g h = also_of (each_axis (row_unit g)) _ (each_axis_of (row_unit g)
+    (λ i. one_unit_of (entry g i x1) (entry g i x2) (entry g i x3) (h.rows i)))
+    (each_axis_of (column_unit g) (λ j. one_unit_of (entry g x1 j) (entry g x2 j) (entry g x3 j) (h.columns j)))
 
 pub plain_told : (g : Operation) → plain_test g ≡ true → IsPlain g
 plain_told g e =
     let p : (_ ≡ true) × (_ ≡ true) = both (each_axis (row_unit g)) (each_axis (column_unit g)) e in
-    record { rows = λ i. one_unit_told (entry g i x1) (entry g i x2) (entry g i x3) (each_axis_told (row_unit g) p.0 i); columns = λ j. one_unit_told (entry g x1 j) (entry g x2 j) (entry g x3 j) (each_axis_told (column_unit g) p.1 j) }
+    record {
+      rows = λ i. one_unit_told (entry g i x1) (entry g i x2) (entry g i x3) (each_axis_told (row_unit g) p.0 i);
+      columns = λ j. one_unit_told (entry g x1 j) (entry g x2 j) (entry g x3 j) (each_axis_told (column_unit g) p.1 j);
+    }
 
 -- ---- diagonal
 abbrev pub diagonal_test : Operation → Bool
-diagonal_test g = also (also (unit_test (entry g x1 x1)) (also (zero_test (entry g x1 x2)) (zero_test (entry g x1 x3)))) (also (also (zero_test (entry g x2 x1)) (also (unit_test (entry g x2 x2)) (zero_test (entry g x2 x3)))) (also (zero_test (entry g x3 x1)) (also (zero_test (entry g x3 x2)) (unit_test (entry g x3 x3)))))
+diagonal_test g = also (also (unit_test (entry g x1 x1)) (also (zero_test (entry g x1 x2)) (zero_test (entry g x1 x3))))
+    (also (also (zero_test (entry g x2 x1)) (also (unit_test (entry g x2 x2)) (zero_test (entry g x2 x3))))
+    (also (zero_test (entry g x3 x1)) (also (zero_test (entry g x3 x2)) (unit_test (entry g x3 x3)))))
 
 abbrev is_x1 : Axis → Bool
 is_x1 x1 = true
@@ -155,23 +175,66 @@ off_it e i j n (inr h) = same_entry_of e nought h.1
 
 pub diagonal_of : (g : Operation) → IsDiagonal g → diagonal_test g ≡ true
 diagonal_of g h = three _ _ _
-    (three _ _ _ (on_it (entry g x1 x1) x1 (h x1 x1)) (off_it (entry g x1 x2) x1 x2 x1_x2 (h x1 x2)) (off_it (entry g x1 x3) x1 x3 x1_x3 (h x1 x3)))
-    (three _ _ _ (off_it (entry g x2 x1) x2 x1 (λ e. x1_x2 (sym e)) (h x2 x1)) (on_it (entry g x2 x2) x2 (h x2 x2)) (off_it (entry g x2 x3) x2 x3 x2_x3 (h x2 x3)))
-    (three _ _ _ (off_it (entry g x3 x1) x3 x1 (λ e. x1_x3 (sym e)) (h x3 x1)) (off_it (entry g x3 x2) x3 x2 (λ e. x2_x3 (sym e)) (h x3 x2)) (on_it (entry g x3 x3) x3 (h x3 x3)))
+    (three _ _ _ (on_it (entry g x1 x1) x1 (h x1 x1)) (off_it (entry g x1 x2) x1 x2 x1_x2 (h x1 x2))
+    (off_it (entry g x1 x3) x1 x3 x1_x3 (h x1 x3)))
+    (three _ _ _ (off_it (entry g x2 x1) x2 x1 (λ e. x1_x2 (sym e)) (h x2 x1)) (on_it (entry g x2 x2) x2 (h x2 x2))
+    (off_it (entry g x2 x3) x2 x3 x2_x3 (h x2 x3)))
+    (three _ _ _ (off_it (entry g x3 x1) x3 x1 (λ e. x1_x3 (sym e)) (h x3 x1))
+    (off_it (entry g x3 x2) x3 x2 (λ e. x2_x3 (sym e)) (h x3 x2)) (on_it (entry g x3 x3) x3 (h x3 x3)))
 
 pub diagonal_told : (g : Operation) → diagonal_test g ≡ true → IsDiagonal g
 diagonal_told g e = at
   where
-    rows : (also (unit_test (entry g x1 x1)) (also (zero_test (entry g x1 x2)) (zero_test (entry g x1 x3))) ≡ true) × (also (zero_test (entry g x2 x1)) (also (unit_test (entry g x2 x2)) (zero_test (entry g x2 x3))) ≡ true) × (also (zero_test (entry g x3 x1)) (also (zero_test (entry g x3 x2)) (unit_test (entry g x3 x3))) ≡ true)
-    rows = three_told (also (unit_test (entry g x1 x1)) (also (zero_test (entry g x1 x2)) (zero_test (entry g x1 x3)))) (also (zero_test (entry g x2 x1)) (also (unit_test (entry g x2 x2)) (zero_test (entry g x2 x3)))) (also (zero_test (entry g x3 x1)) (also (zero_test (entry g x3 x2)) (unit_test (entry g x3 x3)))) e
+    rows : (also (unit_test (entry g x1 x1)) (also (zero_test (entry g x1 x2)) (zero_test (entry g x1 x3))) ≡ true) ×
+        (also (zero_test (entry g x2 x1)) (also (unit_test (entry g x2 x2)) (zero_test (entry g x2 x3))) ≡ true) ×
+        (also (zero_test (entry g x3 x1)) (also (zero_test (entry g x3 x2)) (unit_test (entry g x3 x3))) ≡ true)
+    rows = three_told (also (unit_test (entry g x1 x1)) (also (zero_test (entry g x1 x2)) (zero_test (entry g x1 x3))))
+        (also (zero_test (entry g x2 x1)) (also (unit_test (entry g x2 x2)) (zero_test (entry g x2 x3))))
+        (also (zero_test (entry g x3 x1)) (also (zero_test (entry g x3 x2)) (unit_test (entry g x3 x3)))) e
 
     at : (i j : Axis) → ((i ≡ j) × IsUnit (entry g i j)) ⊎ ((i ≢ j) × (entry g i j ≡ nought))
-    at x1 x1 = inl (refl, unit_told _ (three_told (unit_test (entry g x1 x1)) (zero_test (entry g x1 x2)) (zero_test (entry g x1 x3)) rows.0).0)
-    at x1 x2 = inr (x1_x2, same_entry_true _ nought (three_told (unit_test (entry g x1 x1)) (zero_test (entry g x1 x2)) (zero_test (entry g x1 x3)) rows.0).1)
-    at x1 x3 = inr (x1_x3, same_entry_true _ nought (three_told (unit_test (entry g x1 x1)) (zero_test (entry g x1 x2)) (zero_test (entry g x1 x3)) rows.0).2)
-    at x2 x1 = inr (λ e. x1_x2 (sym e), same_entry_true _ nought (three_told (zero_test (entry g x2 x1)) (unit_test (entry g x2 x2)) (zero_test (entry g x2 x3)) rows.1).0)
-    at x2 x2 = inl (refl, unit_told _ (three_told (zero_test (entry g x2 x1)) (unit_test (entry g x2 x2)) (zero_test (entry g x2 x3)) rows.1).1)
-    at x2 x3 = inr (x2_x3, same_entry_true _ nought (three_told (zero_test (entry g x2 x1)) (unit_test (entry g x2 x2)) (zero_test (entry g x2 x3)) rows.1).2)
-    at x3 x1 = inr (λ e. x1_x3 (sym e), same_entry_true _ nought (three_told (zero_test (entry g x3 x1)) (zero_test (entry g x3 x2)) (unit_test (entry g x3 x3)) rows.2).0)
-    at x3 x2 = inr (λ e. x2_x3 (sym e), same_entry_true _ nought (three_told (zero_test (entry g x3 x1)) (zero_test (entry g x3 x2)) (unit_test (entry g x3 x3)) rows.2).1)
-    at x3 x3 = inl (refl, unit_told _ (three_told (zero_test (entry g x3 x1)) (zero_test (entry g x3 x2)) (unit_test (entry g x3 x3)) rows.2).2)
+    at x1 x1 = inl (
+      refl,
+      unit_told _ (three_told (unit_test (entry g x1 x1)) (zero_test (entry g x1 x2))
+          (zero_test (entry g x1 x3)) rows.0).0,
+    )
+    at x1 x2 = inr (
+      x1_x2,
+      same_entry_true _ nought (three_told (unit_test (entry g x1 x1)) (zero_test (entry g x1 x2))
+          (zero_test (entry g x1 x3)) rows.0).1,
+    )
+    at x1 x3 = inr (
+      x1_x3,
+      same_entry_true _ nought (three_told (unit_test (entry g x1 x1)) (zero_test (entry g x1 x2))
+          (zero_test (entry g x1 x3)) rows.0).2,
+    )
+    at x2 x1 = inr (
+      λ e. x1_x2 (sym e),
+      same_entry_true _ nought
+          (three_told (zero_test (entry g x2 x1)) (unit_test (entry g x2 x2)) (zero_test (entry g x2 x3)) rows.1).0,
+    )
+    at x2 x2 = inl (
+      refl,
+      unit_told _ (three_told (zero_test (entry g x2 x1)) (unit_test (entry g x2 x2))
+          (zero_test (entry g x2 x3)) rows.1).1,
+    )
+    at x2 x3 = inr (
+      x2_x3,
+      same_entry_true _ nought (three_told (zero_test (entry g x2 x1)) (unit_test (entry g x2 x2))
+          (zero_test (entry g x2 x3)) rows.1).2,
+    )
+    at x3 x1 = inr (
+      λ e. x1_x3 (sym e),
+      same_entry_true _ nought
+          (three_told (zero_test (entry g x3 x1)) (zero_test (entry g x3 x2)) (unit_test (entry g x3 x3)) rows.2).0,
+    )
+    at x3 x2 = inr (
+      λ e. x2_x3 (sym e),
+      same_entry_true _ nought
+          (three_told (zero_test (entry g x3 x1)) (zero_test (entry g x3 x2)) (unit_test (entry g x3 x3)) rows.2).1,
+    )
+    at x3 x3 = inl (
+      refl,
+      unit_told _ (three_told (zero_test (entry g x3 x1)) (zero_test (entry g x3 x2))
+          (unit_test (entry g x3 x3)) rows.2).2,
+    )

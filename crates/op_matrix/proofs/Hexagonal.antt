@@ -1,14 +1,15 @@
 -- The hexagonal matrices are those of the table's frame.
-use Rattle.std.proofs.Common.{◌≡◌, ◌≢◌, ℕ, zero, suc, ◌+◌, ◌*◌, ◌<◌, Bool, true, false, List, [], ◌∷◌, refl, ap, sym, ◌∙◌, arith, subst, lit<, cond, ◌⊎◌, inl, inr}
-use Rattle.std.specs.Prelude.{nat_eq, nat_lt, Option, Some, None}
+use Rattle.std.proofs.Common.{◌≡◌, ◌≢◌, ℕ, ◌<◌, Bool, true, false, List, [], ◌∷◌, refl, ap, sym}
+use Rattle.std.proofs.Common.{◌∙◌, arith, subst, lit<, cond, inl, inr}
+use Rattle.std.specs.Prelude.{nat_eq, nat_lt, Some}
 use mathlib.Core.Bool.{xor}
 use Rattle.std.proofs.lemmas.Bool.Decides.{nat_tests}
-use Rattle.tensor_defs.specs.Operation.{Axis, x1, x2, x3, Entry, Row, Operation, entry, value, IsProduct, identity, matrix, one, nought, minus_one}
+use Rattle.tensor_defs.specs.Operation.{Axis, x1, x2, x3, Entry, Operation, entry, IsProduct, identity}
+use Rattle.tensor_defs.specs.Operation.{matrix, nought}
 use Rattle.tensor_defs.specs.declared.OpKind.TheVariants.{Six}
 use Rattle.tensor_defs.specs.declared.Direction.TheVariants.{Z}
 use Rattle.tensor_defs.specs.Symbols.{operation_of}
-use Rattle.tensor_defs.specs.Lists.{Each}
-use Rattle.tensor_defs.specs.Group.{IsProductOf, Generated}
+use Rattle.tensor_defs.specs.Group.{Generated}
 use Rattle.tensor_defs.specs.Frames.{IsThe, IsUnit, IsPlain, IsDiagonal, IsHexagonal, SameMatrix, HaveCommonFrame}
 use Rattle.tensor_laws.proofs.Products.{product_unique, generated_within, product_tested}
 use Rattle.op_matrix.specs.Tests.{all_below, below_told, both, nat_eq_means}
@@ -17,7 +18,8 @@ use Rattle.op_matrix.specs.Places.{place_at}
 use Rattle.op_matrix.specs.declared.entry.Frame.{Frame}
 use Rattle.op_matrix.specs.declared.entry.Frame.TheVariants.{Plain, Hexagonal, Both}
 use Rattle.op_matrix.specs.View.{hex_frame, plain_frame, both_frame}
-use Rattle.op_matrix.proofs.Frames.{x1_x2, x1_x3, x2_x3, also, either, either_told, plain_test, plain_of, plain_told, diagonal_test, diagonal_of, diagonal_told}
+use Rattle.op_matrix.proofs.Frames.{x1_x2, x1_x3, x2_x3, also, either, either_told, plain_test, plain_of, plain_told}
+use Rattle.op_matrix.proofs.Frames.{diagonal_test, diagonal_of, diagonal_told}
 use Rattle.op_matrix.proofs.Products.{product_code, frame_code, common, product_at, product_code_below}
 
 pub hex_common : (f f' : Frame) → hex_frame f ≡ true → hex_frame f' ≡ true → common f f' ≡ true
@@ -44,7 +46,8 @@ implied false b e f = cc
 -- products keep the frame
 kept : (Frame → Bool) → Bool
 unfolding product_code frame_code
-kept p = all_below 64 (λ n. all_below 64 (λ m. implies (also (p (frame_code n)) (p (frame_code m))) (p (frame_code (product_code n m)))))
+kept p = all_below 64 (λ n. all_below 64 (λ m. implies (also (p (frame_code n)) (p (frame_code m)))
+    (p (frame_code (product_code n m)))))
 
 hex_kept : kept hex_frame ≡ true
 unfolding kept product_code frame_code
@@ -57,14 +60,20 @@ plain_kept = refl
 two_true : (a b : Bool) → a ≡ true → b ≡ true → also a b ≡ true
 two_true a b e f = rw e f
 
-kept_at : (p : Frame → Bool) → kept p ≡ true → (n m : ℕ) → n < 64 → m < 64 → p (frame_code n) ≡ true → p (frame_code m) ≡ true → p (frame_code (product_code n m)) ≡ true
+kept_at : (p : Frame → Bool) → kept p ≡ true → (n m : ℕ) → n < 64 → m < 64 → p (frame_code n) ≡ true →
+    p (frame_code m) ≡ true → p (frame_code (product_code n m)) ≡ true
 unfolding kept
-kept_at p e n m h k a b = implied (also (p (frame_code n)) (p (frame_code m))) (p (frame_code (product_code n m))) (below_told 64 (λ m. implies (also (p (frame_code n)) (p (frame_code m))) (p (frame_code (product_code n m)))) (below_told 64 (λ n. all_below 64 (λ m. implies (also (p (frame_code n)) (p (frame_code m))) (p (frame_code (product_code n m))))) e n h) m k) (two_true _ _ a b)
+kept_at p e n m h k a b = implied (also (p (frame_code n)) (p (frame_code m))) (p (frame_code (product_code n m)))
+    (below_told 64 (λ m. implies (also (p (frame_code n)) (p (frame_code m))) (p (frame_code (product_code n m))))
+    (below_told 64 (λ n. all_below 64 (λ m. implies (also (p (frame_code n)) (p (frame_code m)))
+    (p (frame_code (product_code n m))))) e n h) m k) (two_true _ _ a b)
 
-pub hex_kept_at : (n m : ℕ) → n < 64 → m < 64 → hex_frame (frame_code n) ≡ true → hex_frame (frame_code m) ≡ true → hex_frame (frame_code (product_code n m)) ≡ true
+pub hex_kept_at : (n m : ℕ) → n < 64 → m < 64 → hex_frame (frame_code n) ≡ true → hex_frame (frame_code m) ≡ true →
+    hex_frame (frame_code (product_code n m)) ≡ true
 hex_kept_at = kept_at hex_frame hex_kept
 
-pub plain_kept_at : (n m : ℕ) → n < 64 → m < 64 → plain_frame (frame_code n) ≡ true → plain_frame (frame_code m) ≡ true → plain_frame (frame_code (product_code n m)) ≡ true
+pub plain_kept_at : (n m : ℕ) → n < 64 → m < 64 → plain_frame (frame_code n) ≡ true →
+    plain_frame (frame_code m) ≡ true → plain_frame (frame_code (product_code n m)) ≡ true
 plain_kept_at = kept_at plain_frame plain_kept
 
 -- an operation of the table with a hexagonal matrix
@@ -100,11 +109,18 @@ pub listed_product : (g h : Operation) → Listed g → Listed h → (m : Operat
 unfolding operation_at
 listed_product g h a b =
     let k : ℕ = product_code a.0 b.0 in
-    let m : Operation = operation_at k (xor g.primed h.primed) in
-    (m, (k, product_code_below a.0 b.0 a.1 b.1, hex_kept_at a.0 b.0 a.1 b.1 a.2 b.2, refl), subst (λ x. IsProduct x h m) (sym a.3) (subst (λ x. IsProduct (operation_at a.0 g.primed) x m) (sym b.3) (product_at a.0 b.0 g.primed h.primed (xor g.primed h.primed) a.1 b.1 (hex_common (frame_code a.0) (frame_code b.0) a.2 b.2) refl)))
+    let m : Operation = operation_at k (xor g.primed h.primed) in (
+      m,
+      (k, product_code_below a.0 b.0 a.1 b.1, hex_kept_at a.0 b.0 a.1 b.1 a.2 b.2, refl),
+      subst (λ x. IsProduct x h m)
+          (sym a.3) (subst (λ x. IsProduct (operation_at a.0 g.primed) x m) (sym b.3)
+          (product_at a.0 b.0 g.primed h.primed (xor g.primed h.primed) a.1 b.1
+          (hex_common (frame_code a.0) (frame_code b.0) a.2 b.2) refl)),
+    )
 
 pub listed_unique : (g h k : Operation) → Listed g → Listed h → IsProduct g h k → Listed k
-listed_unique g h k a b p = let m : (m : Operation) × Listed m × IsProduct g h m = listed_product g h a b in subst Listed (product_unique g h m.0 k m.2 p) m.1
+listed_unique g h k a b p = let m : (m : Operation) × Listed m × IsProduct g h m =
+    listed_product g h a b in subst Listed (product_unique g h m.0 k m.2 p) m.1
 
 pub identity_listed : Listed identity
 unfolding operation_at
@@ -114,7 +130,8 @@ six_listed : (s : Operation) → IsThe (operation_of Six Z false) s → Listed s
 six_listed s e = (12, lit< tt, six_hex, primed_of s 12 false (six_is s e))
 
 pub turns_listed : (r : Operation) → Generated (IsThe (operation_of Six Z false)) r → Listed r
-turns_listed = generated_within (IsThe (operation_of Six Z false)) Listed identity_listed (λ s l e a. listed_product s l (six_listed s e) a)
+turns_listed = generated_within (IsThe (operation_of Six Z false)) Listed identity_listed
+    (λ s l e a. listed_product s l (six_listed s e) a)
 
 -- ---- diagonal ones
 off : (d : Operation) → IsDiagonal d → (i j : Axis) → i ≢ j → entry d i j ≡ nought
@@ -129,8 +146,18 @@ signs a b c p = matrix a nought nought nought b nought nought nought c p
 shape : (d : Operation) → IsDiagonal d → d ≡ signs d.row_1.first d.row_2.second d.row_3.third d.primed
 shape d h = λ i. record {
   row_1 = record { first = d.row_1.first; second = off d h x1 x2 x1_x2 i; third = off d h x1 x3 x1_x3 i };
-  row_2 = record { first = off d h x2 x1 (λ e. x1_x2 (sym e)) i; second = d.row_2.second; third = off d h x2 x3 x2_x3 i };
-  row_3 = record { first = off d h x3 x1 (λ e. x1_x3 (sym e)) i; second = off d h x3 x2 (λ e. x2_x3 (sym e)) i; third = d.row_3.third };
+  row_2 = record {
+    first = off d h x2 x1 (λ e. x1_x2 (sym e)) i;
+    second = d.row_2.second;
+    third =
+        off d h x2 x3 x2_x3 i;
+  };
+  row_3 = record {
+    first = off d h x3 x1 (λ e. x1_x3 (sym e)) i;
+    second = off d h x3 x2 (λ e. x2_x3 (sym e)) i;
+    third =
+        d.row_3.third;
+  };
   primed = d.primed;
 }
 
@@ -146,7 +173,8 @@ of_signs a b c p (inr e) (inr f) (inl g) = (62, lit< tt, refl, λ i. signs (e i)
 of_signs a b c p (inr e) (inr f) (inr g) = (63, lit< tt, refl, λ i. signs (e i) (f i) (g i) p)
 
 pub diagonal_listed : (d : Operation) → IsDiagonal d → Listed d
-diagonal_listed d h = subst Listed (sym (shape d h)) (of_signs d.row_1.first d.row_2.second d.row_3.third d.primed (unit d h x1) (unit d h x2) (unit d h x3))
+diagonal_listed d h = subst Listed (sym (shape d h)) (of_signs d.row_1.first d.row_2.second d.row_3.third d.primed
+    (unit d h x1) (unit d h x2) (unit d h x3))
 
 -- ---- the place is told by the entries
 pub place_same : (g k : Operation) → SameMatrix g k → matrix_place g ≡ matrix_place k
@@ -178,10 +206,12 @@ diagonals = 0 ∷ 1 ∷ 6 ∷ 7 ∷ 56 ∷ 57 ∷ 62 ∷ 63 ∷ []
 
 -- matrix b is diagonal, and t times b is n
 abbrev part : ℕ → ℕ → ℕ → Bool
-part t n b = also (nat_lt b 64) (also (diagonal_test (operation_at b false)) (also (hex_frame (frame_code b)) (nat_eq (product_code t b) n)))
+part t n b = also (nat_lt b 64) (also (diagonal_test (operation_at b false))
+    (also (hex_frame (frame_code b)) (nat_eq (product_code t b) n)))
 
 abbrev parted : ℕ → Bool
-parted n = implies (hex_frame (frame_code n)) (either (any diagonals (part 0 n)) (either (any diagonals (part 12 n)) (any diagonals (part 52 n))))
+parted n = implies (hex_frame (frame_code n)) (either (any diagonals (part 0 n))
+    (either (any diagonals (part 12 n)) (any diagonals (part 52 n))))
 
 parted_all : all_below 64 parted ≡ true
 unfolding product_code frame_code operation_at
@@ -198,7 +228,8 @@ nat_lt_means a b e = grind (arith, nat_tests)
 
 -- a turn by t, a power of 6z
 abbrev IsTurn : ℕ → Type 0
-IsTurn t = (t < 64) × (hex_frame (frame_code t) ≡ true) × Generated (IsThe (operation_of Six Z false)) (operation_at t false)
+IsTurn t = (t < 64) × (hex_frame (frame_code t) ≡ true) × Generated (IsThe (operation_of Six Z false))
+    (operation_at t false)
 
 no_turn : IsTurn 0
 unfolding operation_at frame_code
@@ -206,27 +237,69 @@ no_turn = (lit< tt, refl, ([], tt, refl))
 
 one_turn : IsTurn 12
 unfolding operation_at frame_code xor
-one_turn = (lit< tt, refl, (operation_at 12 false ∷ [], (refl, tt), (identity, refl, product_tested (operation_at 12 false) identity (operation_at 12 false) refl)))
+one_turn = (
+  lit< tt,
+  refl,
+  (
+    operation_at 12 false ∷ [],
+    (refl, tt),
+    (identity, refl, product_tested (operation_at 12 false) identity (operation_at 12 false) refl),
+  ),
+)
 
 two_turns : IsTurn 52
 unfolding operation_at frame_code xor
-two_turns = (lit< tt, refl, (operation_at 12 false ∷ operation_at 12 false ∷ [], (refl, (refl, tt)), (operation_at 12 false, (identity, refl, product_tested (operation_at 12 false) identity (operation_at 12 false) refl), product_tested (operation_at 12 false) (operation_at 12 false) (operation_at 52 false) refl)))
+two_turns = (
+  lit< tt,
+  refl,
+  (
+    operation_at 12 false ∷ operation_at 12 false ∷ [],
+    (refl, (refl, tt)),
+    (
+      operation_at 12 false,
+      (
+        identity,
+        refl,
+        product_tested (operation_at 12 false) identity (operation_at 12 false)
+            refl,
+      ),
+      product_tested (operation_at 12 false) (operation_at 12 false) (operation_at 52 false) refl,
+    ),
+  ),
+)
 
 hex_by : (t n : ℕ) (p : Bool) → IsTurn t → any diagonals (part t n) ≡ true → IsHexagonal (operation_at n p)
 unfolding xor
 hex_by t n p turn e =
     let b : (b : ℕ) × (part t n b ≡ true) = any_told diagonals (part t n) e in
-    let u : (nat_lt b.0 64 ≡ true) × (also (diagonal_test (operation_at b.0 false)) (also (hex_frame (frame_code b.0)) (nat_eq (product_code t b.0) n)) ≡ true) = both (nat_lt b.0 64) (also (diagonal_test (operation_at b.0 false)) (also (hex_frame (frame_code b.0)) (nat_eq (product_code t b.0) n))) b.1 in
-    let v : (diagonal_test (operation_at b.0 false) ≡ true) × (also (hex_frame (frame_code b.0)) (nat_eq (product_code t b.0) n) ≡ true) = both (diagonal_test (operation_at b.0 false)) (also (hex_frame (frame_code b.0)) (nat_eq (product_code t b.0) n)) u.1 in
-    let w : (hex_frame (frame_code b.0) ≡ true) × (nat_eq (product_code t b.0) n ≡ true) = both (hex_frame (frame_code b.0)) (nat_eq (product_code t b.0) n) v.1 in
-    (operation_at t false, operation_at b.0 false, operation_at (product_code t b.0) false, turn.2, diagonal_told (operation_at b.0 false) v.0, product_at t b.0 false false false turn.0 (nat_lt_means b.0 64 u.0) (hex_common (frame_code t) (frame_code b.0) turn.1 w.0) refl, same_at (product_code t b.0) n false p (nat_eq_means (product_code t b.0) n w.1))
+    let u : (nat_lt b.0 64 ≡ true) × (also (diagonal_test (operation_at b.0 false))
+    (also (hex_frame (frame_code b.0)) (nat_eq (product_code t b.0) n)) ≡ true) =
+    both (nat_lt b.0 64) (also (diagonal_test (operation_at b.0 false))
+    (also (hex_frame (frame_code b.0)) (nat_eq (product_code t b.0) n))) b.1 in
+    let v : (diagonal_test (operation_at b.0 false) ≡ true) × (also (hex_frame (frame_code b.0))
+    (nat_eq (product_code t b.0) n) ≡ true) = both (diagonal_test (operation_at b.0 false))
+    (also (hex_frame (frame_code b.0)) (nat_eq (product_code t b.0) n)) u.1 in
+    let w : (hex_frame (frame_code b.0) ≡ true) × (nat_eq (product_code t b.0) n ≡ true) =
+    both (hex_frame (frame_code b.0)) (nat_eq (product_code t b.0) n) v.1 in (
+      operation_at t false,
+      operation_at b.0 false,
+      operation_at (product_code t b.0) false,
+      turn.2,
+      diagonal_told
+          (operation_at b.0 false) v.0,
+      product_at t b.0 false false false turn.0 (nat_lt_means b.0 64 u.0)
+          (hex_common (frame_code t) (frame_code b.0) turn.1 w.0) refl,
+      same_at (product_code t b.0) n false p
+          (nat_eq_means (product_code t b.0) n w.1),
+    )
 
 pub hex_told : (n : ℕ) (p : Bool) → n < 64 → hex_frame (frame_code n) ≡ true → IsHexagonal (operation_at n p)
 hex_told n p h f =
     let e = implied (hex_frame (frame_code n)) _ (below_told 64 parted parted_all n h) f in
     elim (either_told (any diagonals (part 0 n)) (either (any diagonals (part 12 n)) (any diagonals (part 52 n))) e) [
       | inl a ↦ hex_by 0 n p no_turn a
-      | inr b ↦ elim (either_told (any diagonals (part 12 n)) (any diagonals (part 52 n)) b) [ inl a ↦ hex_by 12 n p one_turn a | inr a ↦ hex_by 52 n p two_turns a ]
+      | inr b ↦ elim (either_told (any diagonals (part 12 n)) (any diagonals (part 52 n)) b)
+          [ inl a ↦ hex_by 12 n p one_turn a | inr a ↦ hex_by 52 n p two_turns a ]
     ]
 
 -- ---- plain and diagonal ones
@@ -250,7 +323,8 @@ plain_all = refl
 
 plain_same : (n : ℕ) (p : Bool) → n < 64 → plain_test (operation_at n p) ≡ plain_frame (frame_code n)
 unfolding operation_at
-plain_same n p h = same_bool_true (plain_test (operation_at n false)) (plain_frame (frame_code n)) (below_told 64 plain_right plain_all n h)
+plain_same n p h = same_bool_true (plain_test (operation_at n false)) (plain_frame (frame_code n))
+    (below_told 64 plain_right plain_all n h)
 
 pub plain_at_of : (n : ℕ) (p : Bool) → n < 64 → IsPlain (operation_at n p) → plain_frame (frame_code n) ≡ true
 plain_at_of n p h k = sym (plain_same n p h) ∙ plain_of (operation_at n p) k
@@ -267,7 +341,8 @@ diagonal_all = refl
 
 diagonal_same : (n : ℕ) (p : Bool) → n < 64 → diagonal_test (operation_at n p) ≡ both_frame (frame_code n)
 unfolding operation_at
-diagonal_same n p h = same_bool_true (diagonal_test (operation_at n false)) (both_frame (frame_code n)) (below_told 64 diagonal_right diagonal_all n h)
+diagonal_same n p h = same_bool_true (diagonal_test (operation_at n false)) (both_frame (frame_code n))
+    (below_told 64 diagonal_right diagonal_all n h)
 
 pub diagonal_at_of : (n : ℕ) (p : Bool) → n < 64 → IsDiagonal (operation_at n p) → both_frame (frame_code n) ≡ true
 diagonal_at_of n p h k = sym (diagonal_same n p h) ∙ diagonal_of (operation_at n p) k
@@ -276,6 +351,8 @@ pub diagonal_at_told : (n : ℕ) (p : Bool) → n < 64 → both_frame (frame_cod
 diagonal_at_told n p h k = diagonal_told (operation_at n p) (diagonal_same n p h ∙ k)
 
 -- the two have a common frame
-pub common_of : (n m : ℕ) (p q : Bool) → n < 64 → m < 64 → HaveCommonFrame (operation_at n p) (operation_at m q) → common (frame_code n) (frame_code m) ≡ true
-common_of n m p q h k (inl e) = plain_common (frame_code n) (frame_code m) (plain_at_of n p h e.0) (plain_at_of m q k e.1)
+pub common_of : (n m : ℕ) (p q : Bool) → n < 64 → m < 64 → HaveCommonFrame (operation_at n p) (operation_at m q) →
+    common (frame_code n) (frame_code m) ≡ true
+common_of n m p q h k (inl e) = plain_common (frame_code n) (frame_code m) (plain_at_of n p h e.0)
+    (plain_at_of m q k e.1)
 common_of n m p q h k (inr e) = hex_common (frame_code n) (frame_code m) (hex_of n p h e.0) (hex_of m q k e.1)

@@ -1,18 +1,21 @@
 -- Every plain and every hexagonal operation is in the table, so they have products and inverses, which are of their frame.
-use Rattle.std.proofs.Common.{◌≡◌, ◌≢◌, ℕ, zero, suc, ◌+◌, ◌*◌, ◌<◌, Bool, true, false, List, [], ◌∷◌, refl, ap, sym, ◌∙◌, arith, subst, lit<, cond, ◌⊎◌, inl, inr}
+use Rattle.std.proofs.Common.{◌≡◌, ℕ, zero, suc, ◌<◌, Bool, true, false, refl, sym}
+use Rattle.std.proofs.Common.{◌∙◌, subst, lit<, inl, inr}
 use Rattle.std.specs.Prelude.{nat_eq, nat_lt}
 use mathlib.Core.Bool.{xor}
-use Rattle.tensor_defs.specs.Operation.{Axis, x1, x2, x3, Entry, Row, Operation, entry, IsProduct, identity, one, nought, minus_one}
-use Rattle.tensor_defs.specs.Frames.{OneUnit, IsPlain, IsDiagonal, IsHexagonal, HaveCommonFrame, SameMatrix}
-use Rattle.tensor_laws.proofs.Products.{product_unique}
+use Rattle.tensor_defs.specs.Operation.{x1, x2, x3, Entry, Row, Operation, IsProduct, identity, one}
+use Rattle.tensor_defs.specs.Operation.{nought, minus_one}
+use Rattle.tensor_defs.specs.Frames.{OneUnit, IsPlain, IsHexagonal, SameMatrix}
 use Rattle.op_matrix.specs.Tests.{all_below, below_told, below_told_2, both, nat_eq_means}
 use Rattle.op_matrix.specs.Table.{operation_at, nth_operation, place, matrix_place, same_row, same_matrix}
 use Rattle.op_matrix.specs.View.{hex_frame, plain_frame}
 use Rattle.op_matrix.specs.declared.entry.Frame.{Frame}
 use Rattle.op_matrix.proofs.Frames.{also, three_told, same_entry_true, plain_test, plain_of}
 use Rattle.op_matrix.proofs.Products.{product_code, frame_code, common, product_at, product_code_below}
-use Rattle.op_matrix.proofs.Facts.{nth_at, place_below, bit, the_place}
-use Rattle.op_matrix.proofs.Hexagonal.{Listed, listed_unique, turns_listed, diagonal_listed, implies, implied, nat_lt_means, hex_common, plain_common, hex_kept_at, plain_kept_at, plain_at_told, hex_told}
+use Rattle.op_matrix.proofs.Facts.{nth_at, place_below, the_place}
+use Rattle.op_matrix.proofs.Hexagonal.{Listed, listed_unique, turns_listed, diagonal_listed, implies, implied}
+use Rattle.op_matrix.proofs.Hexagonal.{nat_lt_means, hex_common, plain_common, hex_kept_at, plain_kept_at}
+use Rattle.op_matrix.proofs.Hexagonal.{plain_at_told, hex_told}
 
 -- in the table, with a frame that passes the test
 abbrev pub Coded : (Frame → Bool) → Operation → Type 0
@@ -45,7 +48,8 @@ abbrev of_axes : ℕ → ℕ → ℕ → Bool → Operation
 of_axes a b c p = of_rows (axis_row a) (axis_row b) (axis_row c) p
 
 abbrev in_table : Operation → Bool
-in_table g = also (nat_lt (matrix_place g) 64) (also (plain_frame (frame_code (matrix_place g))) (same_matrix (operation_at (matrix_place g) false) g))
+in_table g = also (nat_lt (matrix_place g) 64) (also (plain_frame (frame_code (matrix_place g)))
+    (same_matrix (operation_at (matrix_place g) false) g))
 
 abbrev table_right : ℕ → ℕ → ℕ → Bool
 table_right a b c = implies (plain_test (of_axes a b c false)) (in_table (of_axes a b c false))
@@ -57,19 +61,27 @@ table_all = refl
 same_row_true : (r s : Row) → same_row r s ≡ true → r ≡ s
 same_row_true r s e =
     let t : (_ ≡ true) × (_ ≡ true) × (_ ≡ true) = three_told _ _ _ e in
-    λ i. a_row (same_entry_true r.first s.first t.0 i) (same_entry_true r.second s.second t.1 i) (same_entry_true r.third s.third t.2 i)
+    λ i. a_row (same_entry_true r.first s.first t.0 i) (same_entry_true r.second s.second t.1 i)
+    (same_entry_true r.third s.third t.2 i)
 
-with_mark : (g : Operation) (n : ℕ) (p : Bool) → same_matrix (operation_at n false) g ≡ true → of_rows g.row_1 g.row_2 g.row_3 p ≡ operation_at n p
+with_mark : (g : Operation) (n : ℕ) (p : Bool) → same_matrix (operation_at n false) g ≡ true →
+    of_rows g.row_1 g.row_2 g.row_3 p ≡ operation_at n p
 unfolding operation_at
 with_mark g n p e =
     let t : (_ ≡ true) × (_ ≡ true) × (_ ≡ true) = three_told _ _ _ e in
-    sym (λ i. of_rows (same_row_true (operation_at n false).row_1 g.row_1 t.0 i) (same_row_true (operation_at n false).row_2 g.row_2 t.1 i) (same_row_true (operation_at n false).row_3 g.row_3 t.2 i) p)
+    sym (λ i. of_rows (same_row_true (operation_at n false).row_1 g.row_1 t.0 i)
+    (same_row_true (operation_at n false).row_2 g.row_2 t.1 i)
+    (same_row_true (operation_at n false).row_3 g.row_3 t.2 i) p)
 
-coded_axes : (a b c : ℕ) (p : Bool) → a < 6 → b < 6 → c < 6 → IsPlain (of_axes a b c p) → Coded plain_frame (of_axes a b c p)
+coded_axes : (a b c : ℕ) (p : Bool) → a < 6 → b < 6 → c < 6 → IsPlain (of_axes a b c p) →
+    Coded plain_frame (of_axes a b c p)
 coded_axes a b c p h k l e =
     let g : Operation = of_axes a b c false in
-    let t : in_table g ≡ true = implied (plain_test g) (in_table g) (below_told 6 (table_right a b) (below_told_2 6 6 (λ a b. all_below 6 (table_right a b)) table_all a b h k) c l) (plain_of (of_axes a b c p) e) in
-    let u : (_ ≡ true) × (_ ≡ true) × (_ ≡ true) = three_told (nat_lt (matrix_place g) 64) (plain_frame (frame_code (matrix_place g))) (same_matrix (operation_at (matrix_place g) false) g) t in
+    let t : in_table g ≡ true = implied (plain_test g) (in_table g)
+    (below_told 6 (table_right a b) (below_told_2 6 6 (λ a b. all_below 6 (table_right a b)) table_all a b h k) c l)
+    (plain_of (of_axes a b c p) e) in
+    let u : (_ ≡ true) × (_ ≡ true) × (_ ≡ true) = three_told (nat_lt (matrix_place g) 64)
+    (plain_frame (frame_code (matrix_place g))) (same_matrix (operation_at (matrix_place g) false) g) t in
     (matrix_place g, nat_lt_means _ _ u.0, u.1, with_mark g (matrix_place g) p u.2)
 
 pub plain_listed : (g : Operation) → IsPlain g → Coded plain_frame g
@@ -82,9 +94,11 @@ plain_listed g h =
 
 -- ---- hexagonal ones
 same_rows : (g k : Operation) → SameMatrix k g → g ≡ of_rows k.row_1 k.row_2 k.row_3 g.primed
-same_rows g k s = sym (λ i. of_rows (a_row (s x1 x1 i) (s x1 x2 i) (s x1 x3 i)) (a_row (s x2 x1 i) (s x2 x2 i) (s x2 x3 i)) (a_row (s x3 x1 i) (s x3 x2 i) (s x3 x3 i)) g.primed)
+same_rows g k s = sym (λ i. of_rows (a_row (s x1 x1 i) (s x1 x2 i) (s x1 x3 i))
+    (a_row (s x2 x1 i) (s x2 x2 i) (s x2 x3 i)) (a_row (s x3 x1 i) (s x3 x2 i) (s x3 x3 i)) g.primed)
 
-marked_anew : (k : Operation) (n : ℕ) (p : Bool) → k ≡ operation_at n k.primed → of_rows k.row_1 k.row_2 k.row_3 p ≡ operation_at n p
+marked_anew : (k : Operation) (n : ℕ) (p : Bool) → k ≡ operation_at n k.primed →
+    of_rows k.row_1 k.row_2 k.row_3 p ≡ operation_at n p
 unfolding operation_at
 marked_anew k n p e = λ i. of_rows (e i).row_1 (e i).row_2 (e i).row_3 p
 
@@ -101,22 +115,37 @@ pub plain_product : (g h : Operation) → IsPlain g → IsPlain h → (k : Opera
 plain_product g h p q =
     let a = plain_listed g p in
     let b = plain_listed h q in
-    let k : Operation = product_coded plain_frame g h a b in
-    (k, plain_at_told (product_code a.0 b.0) (xor g.primed h.primed) (product_code_below a.0 b.0 a.1 b.1) (plain_kept_at a.0 b.0 a.1 b.1 a.2 b.2), subst (λ x. IsProduct x h k) (sym a.3) (subst (λ x. IsProduct (operation_at a.0 g.primed) x k) (sym b.3) (product_at a.0 b.0 g.primed h.primed (xor g.primed h.primed) a.1 b.1 (plain_common (frame_code a.0) (frame_code b.0) a.2 b.2) refl)))
+    let k : Operation = product_coded plain_frame g h a b in (
+      k,
+      plain_at_told (product_code a.0 b.0) (xor g.primed h.primed) (product_code_below a.0 b.0 a.1 b.1)
+          (plain_kept_at a.0 b.0 a.1 b.1 a.2 b.2),
+      subst (λ x. IsProduct x h k) (sym a.3)
+          (subst (λ x. IsProduct (operation_at a.0 g.primed) x k) (sym b.3)
+          (product_at a.0 b.0 g.primed h.primed (xor g.primed h.primed) a.1 b.1
+          (plain_common (frame_code a.0) (frame_code b.0) a.2 b.2) refl)),
+    )
 
 pub hex_product : (g h : Operation) → IsHexagonal g → IsHexagonal h → (k : Operation) × IsHexagonal k × IsProduct g h k
 hex_product g h p q =
     let a = hex_listed g p in
     let b = hex_listed h q in
-    let k : Operation = product_coded hex_frame g h a b in
-    (k, hex_told (product_code a.0 b.0) (xor g.primed h.primed) (product_code_below a.0 b.0 a.1 b.1) (hex_kept_at a.0 b.0 a.1 b.1 a.2 b.2), subst (λ x. IsProduct x h k) (sym a.3) (subst (λ x. IsProduct (operation_at a.0 g.primed) x k) (sym b.3) (product_at a.0 b.0 g.primed h.primed (xor g.primed h.primed) a.1 b.1 (hex_common (frame_code a.0) (frame_code b.0) a.2 b.2) refl)))
+    let k : Operation = product_coded hex_frame g h a b in (
+      k,
+      hex_told (product_code a.0 b.0) (xor g.primed h.primed) (product_code_below a.0 b.0 a.1 b.1)
+          (hex_kept_at a.0 b.0 a.1 b.1 a.2 b.2),
+      subst (λ x. IsProduct x h k) (sym a.3)
+          (subst (λ x. IsProduct (operation_at a.0 g.primed) x k) (sym b.3)
+          (product_at a.0 b.0 g.primed h.primed (xor g.primed h.primed) a.1 b.1
+          (hex_common (frame_code a.0) (frame_code b.0) a.2 b.2) refl)),
+    )
 
 -- the place of an operation of the table
 abbrev pub Placed : Operation → Type 0
 Placed g = (place g < 128) × (g ≡ nth_operation (place g))
 
 placed_at : (n : ℕ) (p : Bool) → n < 64 → Placed (operation_at n p)
-placed_at n p h = subst (λ x. (x < 128) × (operation_at n p ≡ nth_operation x)) (the_place n p h) (place_below n p h, sym (nth_at n p))
+placed_at n p h = subst (λ x. (x < 128) × (operation_at n p ≡ nth_operation x)) (the_place n p h)
+    (place_below n p h, sym (nth_at n p))
 
 pub plain_placed : (g : Operation) → IsPlain g → Placed g
 plain_placed g h = let a = plain_listed g h in subst Placed (sym a.3) (placed_at a.0 g.primed a.1)
@@ -155,12 +184,18 @@ identity_at = refl
 abbrev pub OneTimes : Operation → Type 0
 OneTimes g = IsProduct identity g g × IsProduct g identity g
 
-one_at : (n : ℕ) (p : Bool) → n < 64 → common (frame_code 0) (frame_code n) ≡ true → common (frame_code n) (frame_code 0) ≡ true → OneTimes (operation_at n p)
+one_at : (n : ℕ) (p : Bool) → n < 64 → common (frame_code 0) (frame_code n) ≡ true →
+    common (frame_code n) (frame_code 0) ≡ true → OneTimes (operation_at n p)
 unfolding xor
 one_at n p h a b =
-    let t : (_ ≡ true) × (_ ≡ true) = both (nat_eq (product_code 0 n) n) (nat_eq (product_code n 0) n) (below_told 64 one_right one_all n h) in (
-      subst (λ x. IsProduct x (operation_at n p) (operation_at n p)) (sym identity_at) (subst (λ x. IsProduct (operation_at 0 false) (operation_at n p) (operation_at x p)) (nat_eq_means (product_code 0 n) n t.0) (product_at 0 n false p p (lit< tt) h a (left p))),
-      subst (λ x. IsProduct (operation_at n p) x (operation_at n p)) (sym identity_at) (subst (λ x. IsProduct (operation_at n p) (operation_at 0 false) (operation_at x p)) (nat_eq_means (product_code n 0) n t.1) (product_at n 0 p false p h (lit< tt) b (right p))),
+    let t : (_ ≡ true) × (_ ≡ true) = both (nat_eq (product_code 0 n) n) (nat_eq (product_code n 0) n)
+    (below_told 64 one_right one_all n h) in (
+      subst (λ x. IsProduct x (operation_at n p) (operation_at n p)) (sym identity_at)
+          (subst (λ x. IsProduct (operation_at 0 false) (operation_at n p) (operation_at x p))
+          (nat_eq_means (product_code 0 n) n t.0) (product_at 0 n false p p (lit< tt) h a (left p))),
+      subst (λ x. IsProduct (operation_at n p) x (operation_at n p)) (sym identity_at)
+          (subst (λ x. IsProduct (operation_at n p) (operation_at 0 false) (operation_at x p))
+          (nat_eq_means (product_code n 0) n t.1) (product_at n 0 p false p h (lit< tt) b (right p))),
     )
   where
     left : (p : Bool) → p ≡ xor false p
@@ -172,7 +207,11 @@ one_at n p h a b =
     right false = refl
 
 pub plain_one : (g : Operation) → IsPlain g → OneTimes g
-plain_one g h = let a = plain_listed g h in subst OneTimes (sym a.3) (one_at a.0 g.primed a.1 (plain_common (frame_code 0) (frame_code a.0) zero_plain a.2) (plain_common (frame_code a.0) (frame_code 0) a.2 zero_plain))
+plain_one g h = let a = plain_listed g h in subst OneTimes (sym a.3)
+    (one_at a.0 g.primed a.1 (plain_common (frame_code 0) (frame_code a.0) zero_plain a.2)
+    (plain_common (frame_code a.0) (frame_code 0) a.2 zero_plain))
 
 pub hex_one : (g : Operation) → IsHexagonal g → OneTimes g
-hex_one g h = let a = hex_listed g h in subst OneTimes (sym a.3) (one_at a.0 g.primed a.1 (hex_common (frame_code 0) (frame_code a.0) zero_hex a.2) (hex_common (frame_code a.0) (frame_code 0) a.2 zero_hex))
+hex_one g h = let a = hex_listed g h in subst OneTimes (sym a.3)
+    (one_at a.0 g.primed a.1 (hex_common (frame_code 0) (frame_code a.0) zero_hex a.2)
+    (hex_common (frame_code a.0) (frame_code 0) a.2 zero_hex))

@@ -1,5 +1,6 @@
 -- The order of operations is that of their places, and frames are closed under products and inverses.
-use Rattle.std.proofs.Common.{◌≡◌, ◌≢◌, ℕ, ◌<◌, Bool, true, false, refl, ap, sym, ◌∙◌, arith, subst, lit<, ◌⊎◌, inl, inr}
+use Rattle.std.proofs.Common.{◌≡◌, ◌≢◌, ℕ, ◌<◌, Bool, true, false, refl, ap, sym, ◌∙◌, arith, subst, lit<, ◌⊎◌, inl}
+use Rattle.std.proofs.Common.{inr}
 use Rattle.std.specs.Prelude.{nat_lt, IsTrue}
 use Rattle.std.proofs.lemmas.Bool.Decides.{nat_tests}
 use Rattle.tensor_defs.specs.Operation.{Operation, IsProduct, identity}
@@ -65,11 +66,13 @@ order_is_strict_lem = record {
       let p : place g < place h = places_rise g h a b e in
       let q : place h < place k = places_rise h k b c f in
       rise_before g k a c (chain (place g) (place h) (place k) p q);
-  total = λ g h a b. elim (three_ways (place g) (place h) (nat_lt (place g) (place h)) (nat_lt (place h) (place g)) refl refl) [
-    | inl l ↦ inl (rise_before g h a b l)
-    | inr r ↦ elim r [ inl e ↦ inr (inl (same_place g h a b e)) | inr l ↦ inr (inr (rise_before h g b a l)) ]
-  ];
-  least = λ g a n. rise_before identity g identity_framed a (subst (λ x. x < place g) (sym identity_place) (above (place g) (λ e. n (same_place g identity a identity_framed (e ∙ sym identity_place)))));
+  total = λ g h a b. elim (three_ways (place g) (place h) (nat_lt (place g) (place h)) (nat_lt (place h) (place g)) refl
+      refl) [
+        | inl l ↦ inl (rise_before g h a b l)
+        | inr r ↦ elim r [ inl e ↦ inr (inl (same_place g h a b e)) | inr l ↦ inr (inr (rise_before h g b a l)) ]
+      ];
+  least = λ g a n. rise_before identity g identity_framed a (subst (λ x. x < place g) (sym identity_place)
+      (above (place g) (λ e. n (same_place g identity a identity_framed (e ∙ sym identity_place)))));
 }
   where
     chain : (a b c : ℕ) → a < b → b < c → a < c
@@ -85,7 +88,8 @@ any_frame = refl
 
 framed_at : (n : ℕ) (p : Bool) → n < 64 → HasFrame (operation_at n p)
 framed_at n p h =
-    elim (either_told (plain_frame (frame_code n)) (hex_frame (frame_code n)) (below_told 64 (λ n. either (plain_frame (frame_code n)) (hex_frame (frame_code n))) any_frame n h)) [
+    elim (either_told (plain_frame (frame_code n)) (hex_frame (frame_code n))
+    (below_told 64 (λ n. either (plain_frame (frame_code n)) (hex_frame (frame_code n))) any_frame n h)) [
       | inl e ↦ inl (plain_at_told n p h e)
       | inr e ↦ inr (hex_told n p h e)
     ]

@@ -1,14 +1,15 @@
 -- The table of products, by computing.
-use Rattle.std.proofs.Common.{◌≡◌, ◌≢◌, ℕ, zero, suc, ◌+◌, ◌*◌, ◌<◌, Bool, true, false, List, [], ◌∷◌, refl, ap, sym, ◌∙◌, arith, subst, lit<, cond, ◌⊎◌, inl, inr}
-use Rattle.std.specs.Prelude.{nat_eq, nat_lt, slice_index}
+use Rattle.std.proofs.Common.{◌≡◌, ℕ, ◌<◌, Bool, true, false, [], refl}
+use Rattle.std.proofs.Common.{arith, cond}
+use Rattle.std.specs.Prelude.{nat_lt, slice_index}
 use Rattle.std.specs.List.{slice_index_or}
 use mathlib.Core.Bool.{xor}
 use Rattle.std.proofs.lemmas.Bool.Decides.{nat_tests}
-use Rattle.tensor_defs.specs.Operation.{Operation, IsProduct, identity}
+use Rattle.tensor_defs.specs.Operation.{IsProduct}
 use Rattle.tensor_laws.proofs.Products.{product_test, product_tested}
-use Rattle.op_matrix.specs.Tests.{all_below, below_told, both}
+use Rattle.op_matrix.specs.Tests.{all_below, below_told}
 use Rattle.op_matrix.specs.Table.{operation_at}
-use Rattle.op_matrix.specs.declared.tables.TheConstants.{PRODUCTS, INVERSES, FRAMES}
+use Rattle.op_matrix.specs.declared.tables.TheConstants.{PRODUCTS, FRAMES}
 use Rattle.op_matrix.specs.declared.entry.Frame.{Frame}
 use Rattle.op_matrix.specs.declared.entry.Frame.TheVariants.{Plain, Hexagonal, Both}
 use Rattle.op_matrix.proofs.Marks.{product_marked}
@@ -29,7 +30,8 @@ common Hexagonal Hexagonal = true
 common Hexagonal Both = true
 
 abbrev right_at : ℕ → ℕ → Bool
-right_at n m = cond (common (frame_code n) (frame_code m)) (product_test (operation_at n false) (operation_at m false) (operation_at (product_code n m) false)) true
+right_at n m = cond (common (frame_code n) (frame_code m)) (product_test (operation_at n false) (operation_at m false)
+    (operation_at (product_code n m) false)) true
 
 products_right : all_below 64 (λ n. all_below 64 (λ m. right_at n m)) ≡ true
 unfolding operation_at product_code frame_code xor
@@ -40,7 +42,8 @@ unfolding product_code
 codes_below = refl
 
 pub product_code_below : (n m : ℕ) → n < 64 → m < 64 → product_code n m < 64
-product_code_below n m h k = nat_lt_means _ _ (below_told 64 (λ m. nat_lt (product_code n m) 64) (below_told 64 (λ n. all_below 64 (λ m. nat_lt (product_code n m) 64)) codes_below n h) m k)
+product_code_below n m h k = nat_lt_means _ _ (below_told 64 (λ m. nat_lt (product_code n m) 64)
+    (below_told 64 (λ n. all_below 64 (λ m. nat_lt (product_code n m) 64)) codes_below n h) m k)
   where
     nat_lt_means : (a b : ℕ) → nat_lt a b ≡ true → a < b
     nat_lt_means a b e = grind (arith, nat_tests)
@@ -50,5 +53,9 @@ implied true b e f = e
 implied false b e f = cc
 
 -- the product of the operations with matrices n and m
-pub product_at : (n m : ℕ) (p q r : Bool) → n < 64 → m < 64 → common (frame_code n) (frame_code m) ≡ true → r ≡ xor p q → IsProduct (operation_at n p) (operation_at m q) (operation_at (product_code n m) r)
-product_at n m p q r h k c e = product_marked n m (product_code n m) p q r (product_tested _ _ _ (implied (common (frame_code n) (frame_code m)) _ (below_told 64 (λ m. right_at n m) (below_told 64 (λ n. all_below 64 (λ m. right_at n m)) products_right n h) m k) c)) e
+pub product_at : (n m : ℕ) (p q r : Bool) → n < 64 → m < 64 → common (frame_code n) (frame_code m) ≡ true →
+    r ≡ xor p q → IsProduct (operation_at n p) (operation_at m q) (operation_at (product_code n m) r)
+product_at n m p q r h k c e = product_marked n m (product_code n m) p q r
+    (product_tested _ _ _ (implied (common (frame_code n) (frame_code m)) _
+    (below_told 64 (λ m. right_at n m) (below_told 64 (λ n. all_below 64 (λ m. right_at n m)) products_right n h) m k)
+    c)) e

@@ -1,6 +1,7 @@
 -- The 64 matrices that are plain or hexagonal, in the order of operations.
-use Rattle.std.specs.Prelude.{◌≡◌, ℕ, zero, suc, ◌+◌, ◌*◌, ◌/◌, ◌%◌, nat_eq, Bool, true, false, List, [], ◌∷◌, cond}
-use Rattle.tensor_defs.specs.Operation.{Operation, Row, identity, matrix, one, nought, minus_one, half, minus_half, h, minus_h}
+use Rattle.std.specs.Prelude.{ℕ, zero, suc, ◌+◌, ◌*◌, ◌/◌, ◌%◌, nat_eq, Bool, false, List, [], ◌∷◌, cond}
+use Rattle.tensor_defs.specs.Operation.{Operation, Row, identity, matrix, one, nought, minus_one, half, minus_half, h}
+use Rattle.tensor_defs.specs.Operation.{minus_h}
 use Rattle.tensor_defs.specs.OperationOrder.{same_entry}
 
 abbrev pub matrices : List Operation
@@ -83,10 +84,12 @@ unfoldable pub operation_at : ℕ → Bool → Operation
 operation_at n p = marked (nth matrices n) p
 
 abbrev pub same_row : Row → Row → Bool
-same_row r s = cond (same_entry r.first s.first) (cond (same_entry r.second s.second) (same_entry r.third s.third) false) false
+same_row r s = cond (same_entry r.first s.first) (cond (same_entry r.second s.second) (same_entry r.third s.third)
+    false) false
 
 abbrev pub same_matrix : Operation → Operation → Bool
-same_matrix g k = cond (same_row g.row_1 k.row_1) (cond (same_row g.row_2 k.row_2) (same_row g.row_3 k.row_3) false) false
+same_matrix g k = cond (same_row g.row_1 k.row_1) (cond (same_row g.row_2 k.row_2) (same_row g.row_3 k.row_3) false)
+    false
 
 abbrev pub find_matrix : List Operation → Operation → ℕ
 find_matrix [] g = 0

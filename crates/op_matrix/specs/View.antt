@@ -5,7 +5,8 @@ use Rattle.tensor_defs.specs.Operation.{Axis, x1, x2, x3}
 use Rattle.op_matrix.specs.declared.entry.Frame.{Frame}
 use Rattle.op_matrix.specs.declared.entry.Frame.TheVariants.{Plain, Hexagonal, Both}
 use Rattle.op_matrix.specs.declared.entry.Entry.{Entry}
-use Rattle.op_matrix.specs.declared.entry.Entry.TheVariants.{One, HalfRoot3, Half, Zero, MinusHalf, MinusHalfRoot3, MinusOne}
+use Rattle.op_matrix.specs.declared.entry.Entry.TheVariants.{One, HalfRoot3, Half, Zero, MinusHalf, MinusHalfRoot3}
+use Rattle.op_matrix.specs.declared.entry.Entry.TheVariants.{MinusOne}
 
 abbrev pub entry_of : Entry → defs.Entry
 entry_of One = defs.one

@@ -15,14 +15,16 @@ ghost use Rattle.op_matrix.specs.View.{entry_of, axis};
 
 mod entry;
 mod tables;
+#[cfg(test)]
+mod tests;
 
 pub use entry::Entry;
-pub use tensor_defs::{Direction, OpKind};
 use std::marker::Model;
 use tables::{entry_at, frame_at, inverse_at, is_negative_at, product_at};
+pub use tensor_defs::{Direction, OpKind};
 
 /// A matrix, by its place in the table of all plain and hexagonal ones, and a mark.
-#[derive(Clone, Copy)]
+#[derive(Clone, Copy, Debug)]
 pub struct Op {
     matrix: u8,
     primed: bool,
@@ -163,6 +165,29 @@ impl Op {
     {
         self.place() < other.place()
     }
+}
+
+impl PartialEq for Op {
+    ghost use Rattle.std.specs.Prelude.{◌==◌};
+    ghost use Rattle.std.specs.Ordering.{on};
+    ghost use Rattle.std.specs.Cmp.Rules.{comparing};
+    ghost use Rattle.std.proofs.Common.{rules};
+    ghost use Rattle.op_matrix.specs.Table.{place};
+
+    ghost eq = { on place ◌==◌ };
+
+    ghost laws = { Prim.search (comparing, rules) };
+
+    fn eq(&self, other: &Op) -> bool {
+        self.place() == other.place()
+    }
+}
+
+impl Eq for Op {
+    ghost use Rattle.std.specs.Cmp.Rules.{comparing};
+    ghost use Rattle.std.proofs.Common.{rules};
+
+    ghost laws = { Prim.search (comparing, rules) };
 }
 
 /// The order of operations is a strict total order, and the identity comes before all others.

@@ -209,7 +209,8 @@ pub fn is_negative_at(n: u8) -> bool
 /// The inverse of matrix n.
 pub fn inverse_at(n: u8) -> u8
     requires { n < 64 }
-    ensures { result ≡ slice_index INVERSES n }
+    ensures is { result ≡ slice_index INVERSES n }
+    ensures below { result < 64 }
 {
     INVERSES[n as usize]
 }
@@ -218,7 +219,8 @@ pub fn inverse_at(n: u8) -> u8
 pub fn product_at(n: u8, m: u8) -> u8
     requires left { n < 64 }
     requires right { m < 64 }
-    ensures { result ≡ slice_index (slice_index_or PRODUCTS n []) m }
+    ensures is { result ≡ slice_index (slice_index_or PRODUCTS n []) m }
+    ensures below { result < 64 }
 {
     PRODUCTS[n as usize][m as usize]
 }

@@ -3,6 +3,7 @@
 --   GroupOfTwoPrime    the group of 2' has two elements
 --   VectorTableFits    the table in which the component y alone is free fits the group of 2 and the symbol V
 --   FirstRow        the line form 2 V spells a request, and its answer has these bytes
+--   FirstLineNotRefused, FirstLineAnswered    no refusal applies to that line, and these bytes are its answer
 --   LineForm        the line form is no request, and goes wrong at its end
 --   ThreeLines      two empty lines and the line form: the answers of an input
 --   GroupRow        the line group 2' spells a request, and its answer has these bytes
@@ -17,6 +18,7 @@ use Rattle.tensor_defs.specs.Table.{Table, Term, alone, Fits}
 use Rattle.tensor_defs.specs.Tensor.{Index}
 use Rattle.tensor_laws.specs.Laws.{three_z}
 use Rattle.text_defs.specs.Answers.{AnswersRequest, IsAnswer}
+use Rattle.text_defs.specs.Refusals.{IsRefused}
 use Rattle.text_defs.specs.Requests.{Request, SpellsRequest, IsNoRequest}
 use Rattle.tensor_defs.specs.declared.Setting.TheVariants.{Default}
 use Rattle.std.specs.Prelude.{codes}
@@ -44,6 +46,9 @@ pub record GroupOfTwoPrime : Type 0 where
 abbrev pub two_alone : GroupSymbol
 two_alone = record { parent = 3; primes = 0; grey = false; setting = Default }
 
+abbrev pub two_y : Operation
+two_y = matrix minus_one nought nought nought one nought nought nought minus_one false
+
 abbrev pub vector_symbol : JahnSymbol
 vector_symbol =
     record { marks = record { axial = false; magnetic = false }; factors = record { atom = V; power = 1 } ∷ [] }
@@ -67,6 +72,13 @@ first_request = Form (record { symbol = two_alone; column = 6 }) (record { jahn 
 pub record FirstRow : Type 0 where
   pub spelled : SpellsRequest first_line first_request
   pub answered : AnswersRequest first_request (codes "form 2 V free 1 of 3\nT1 = 0\nT2 free\nT3 = 0\n")
+
+abbrev pub FirstLineNotRefused : Type 0
+FirstLineNotRefused = ¬ IsRefused first_line
+
+abbrev pub FirstLineAnswered : Type 0
+FirstLineAnswered =
+    (number : ℕ) → IsAnswer number first_line (codes "form 2 V free 1 of 3\nT1 = 0\nT2 free\nT3 = 0\n")
 
 abbrev pub LineForm : Type 0
 LineForm = IsNoRequest (codes "form") 4

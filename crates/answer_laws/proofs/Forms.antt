@@ -1,0 +1,70 @@
+-- A request for a form has one answer.
+--   flat_map_same       texts joined from texts that are the same
+--   indices_of_rank     the indices of a rank have that many digits
+--   component_line_same, form_text_same    tables with the same parts have the same lines
+--   one_form_lem        a request for a form has one answer
+use Rattle.std.proofs.Common.{◌≡◌, ℕ, zero, suc, List, [], ◌∷◌, ◌++◌, length, refl, ap, sym, ◌∙◌}
+use Rattle.std.specs.Prelude.{map, codes, ◌^◌}
+use Rattle.std.specs.List.{flat_map}
+use Rattle.std.specs.Fmt.{decimal}
+use Rattle.tensor_defs.specs.Group.{InGroup}
+use Rattle.tensor_defs.specs.Jahn.{JahnSymbol, rank}
+use Rattle.tensor_defs.specs.Lists.{Each}
+use Rattle.tensor_defs.specs.Operation.{Axis, x1, x2, x3}
+use Rattle.tensor_defs.specs.Orders.{index_before}
+use Rattle.tensor_defs.specs.Symbols.{GroupSymbol}
+use Rattle.tensor_defs.specs.Table.{Table}
+use Rattle.tensor_defs.specs.Tensor.{Index, indices}
+use Rattle.tensor_laws.proofs.IndexOrder.{index_order}
+use Rattle.tensor_laws.proofs.Unique.{same_free, same_terms}
+use Rattle.text_defs.specs.AnswerTexts.{line_of, row_text, has_index, component_name, named, component_line, table_text}
+use Rattle.text_defs.specs.AnswerTexts.{form_text}
+use Rattle.text_defs.specs.GroupTexts.{group_text}
+use Rattle.text_defs.specs.JahnTexts.{jahn_text}
+use Rattle.answer_laws.proofs.Listings.{each_map, each_append}
+use Rattle.answer_laws.specs.Laws.{OneForm}
+
+pub flat_map_same : {X : Type 0} (f g : X → List ℕ) (xs : List X) → Each (λ x. f x ≡ g x) xs →
+    flat_map f xs ≡ flat_map g xs
+flat_map_same f g [] e = refl
+flat_map_same f g (x ∷ xs) e = λ i. e.0 i ++ flat_map_same f g xs e.1 i
+
+-- ---- indices
+put_before : (r : ℕ) (a : Axis) (cs : List Index) → Each (λ c. length c ≡ r) cs →
+    Each (λ c. length c ≡ suc r) (map (λ js. a ∷ js) cs)
+put_before r a [] e = tt
+put_before r a (c ∷ cs) e = (ap suc e.0, put_before r a cs e.1)
+
+pub indices_of_rank : (r : ℕ) → Each (λ c. length c ≡ r) (indices r)
+indices_of_rank zero = (refl, tt)
+indices_of_rank (suc r) =
+    let e : Each (λ c. length c ≡ r) (indices r) = indices_of_rank r in
+    each_append (λ c. length c ≡ suc r) (map (λ js. x1 ∷ js) (indices r) ++ map (λ js. x2 ∷ js) (indices r)) _
+    (each_append (λ c. length c ≡ suc r) (map (λ js. x1 ∷ js) (indices r)) _ (put_before r x1 (indices r) e)
+    (put_before r x2 (indices r) e)) (put_before r x3 (indices r) e)
+
+-- ---- texts
+pub component_line_same : (a b : Table) (c : Index) → a.free ≡ b.free → a.terms c ≡ b.terms c →
+    component_line a c ≡ component_line b c
+component_line_same a b c f t =
+    λ i. row_text (has_index (f i) c) (component_name c) (named (map component_name (f i)) (t i))
+
+pub table_text_same : (r : ℕ) (a b : Table) → a.free ≡ b.free →
+    ((c : Index) → length c ≡ r → a.terms c ≡ b.terms c) → table_text r a ≡ table_text r b
+table_text_same r a b f t =
+    flat_map_same (component_line a) (component_line b) (indices r)
+    (each_map (λ c. length c ≡ r) (λ c. component_line a c ≡ component_line b c)
+    (λ c n. component_line_same a b c f (t c n)) (indices r) (indices_of_rank r))
+
+pub form_text_same : (g : GroupSymbol) (j : JahnSymbol) (a b : Table) → a.free ≡ b.free →
+    ((c : Index) → length c ≡ rank j → a.terms c ≡ b.terms c) → form_text g j a ≡ form_text g j b
+form_text_same g j a b f t =
+    λ i. line_of (codes "form" ∷ group_text g ∷ jahn_text j ∷ codes "free" ∷ decimal (length (f i)) ∷ codes "of"
+    ∷ decimal (3 ^ rank j) ∷ []) ++ table_text_same (rank j) a b f t i
+
+pub one_form_lem : OneForm
+one_form_lem g j a b p q =
+    let H = InGroup g.symbol in
+    let order = index_order (rank j.jahn) in
+    p.2 ∙ form_text_same g.symbol j.jahn p.0 q.0 (same_free j.jahn H index_before order p.0 q.0 p.1 q.1)
+    (same_terms j.jahn H index_before order p.0 q.0 p.1 q.1) ∙ sym q.2

@@ -1,0 +1,15 @@
+pub mod Listings
+pub mod RefusalUnique
+pub mod Forms
+pub mod Elements
+pub mod Lines
+pub mod Voigts
+pub mod SameTensors
+pub mod Matrices
+pub mod Groups
+pub mod DomainStates
+pub mod Roots
+pub mod Differences
+pub mod Classes
+pub mod Classical
+pub mod Outputs

@@ -1,0 +1,78 @@
+-- Laws of answers, as the contracts of src/ cite them.
+--   OneListing      the group of a symbol has one listing in the order of operations
+--   OneRefusal      at most one refusal applies to a line, at one column
+--   HasOneAnswer    a request has one answer
+--   OneForm, OneGroup, OneVoigt, OneSame    a request for a form, for the elements of a group, for a Voigt table, or
+--                   whether two groups leave the same tensors, has one answer
+--   OneStates, OneDiffer    a request for states, or for the components that distinguish them, has one answer, where
+--                   the second symbol keeps the rules of symbols
+--   OnePairs        a request for pair classes has one answer, where both symbols keep the rules and the second
+--                   group is below the first
+--   LineHasOneAnswer    a line has one answer at each number
+--   OneAnswer       a line of a number has one answer
+--   OneOutput       an input has one output: the answers of its lines
+--   OneFormAnswer, OneGroupAnswer    a line that spells a request for a form, or for a group, has one answer
+use Rattle.std.specs.Prelude.{◌≡◌, ℕ, List}
+use Rattle.tensor_defs.specs.declared.Weights.{Weights}
+use Rattle.tensor_defs.specs.Lists.{IsListing}
+use Rattle.tensor_defs.specs.Operation.{Operation}
+use Rattle.tensor_defs.specs.OperationOrder.{comes_before}
+use Rattle.tensor_defs.specs.Group.{InGroup, IsBelow}
+use Rattle.tensor_defs.specs.Symbols.{GroupSymbol, IsGroupSymbol}
+use Rattle.text_defs.specs.Answers.{AnswersRequest, IsAnswer}
+use Rattle.text_defs.specs.Lines.{AreAnswersOf}
+use Rattle.text_defs.specs.Refusals.{RefusalWord, Refuses}
+use Rattle.text_defs.specs.Requests.{GroupAt, JahnAt, Request, SpellsRequest}
+use Rattle.text_defs.specs.Requests.Request.{Form, Group, Voigt, States, Pairs, Differ, Same}
+
+abbrev pub OneListing : Type 0
+OneListing =
+    (t : GroupSymbol) (gs hs : List Operation) → IsListing comes_before (InGroup t) gs →
+    IsListing comes_before (InGroup t) hs → gs ≡ hs
+
+abbrev pub OneRefusal : Type 0
+OneRefusal =
+    (line : List ℕ) (v w : RefusalWord) (c d : ℕ) → Refuses line v c → Refuses line w d → (v ≡ w) × (c ≡ d)
+
+-- a request has one answer
+abbrev pub HasOneAnswer : Request → Type 0
+HasOneAnswer q = (a b : List ℕ) → AnswersRequest q a → AnswersRequest q b → a ≡ b
+
+abbrev pub OneForm : Type 0
+OneForm = (g : GroupAt) (j : JahnAt) → HasOneAnswer (Form g j)
+
+abbrev pub OneGroup : Type 0
+OneGroup = (g : GroupAt) → HasOneAnswer (Group g)
+
+abbrev pub OneVoigt : Type 0
+OneVoigt = (g : GroupAt) (j : JahnAt) (w : Weights) → HasOneAnswer (Voigt g j w)
+
+abbrev pub OneSame : Type 0
+OneSame = (g h : GroupAt) (j : JahnAt) → HasOneAnswer (Same g h j)
+
+abbrev pub OneStates : Type 0
+OneStates = (g f : GroupAt) → IsGroupSymbol f.symbol → HasOneAnswer (States g f)
+
+abbrev pub OneDiffer : Type 0
+OneDiffer = (g f : GroupAt) (j : JahnAt) → IsGroupSymbol f.symbol → HasOneAnswer (Differ g f j)
+
+abbrev pub OnePairs : Type 0
+OnePairs =
+    (g f : GroupAt) → IsGroupSymbol g.symbol → IsGroupSymbol f.symbol →
+    IsBelow (InGroup f.symbol) (InGroup g.symbol) → HasOneAnswer (Pairs g f)
+
+-- a line has one answer
+abbrev pub LineHasOneAnswer : List ℕ → Type 0
+LineHasOneAnswer line = (number : ℕ) (a b : List ℕ) → IsAnswer number line a → IsAnswer number line b → a ≡ b
+
+abbrev pub OneFormAnswer : Type 0
+OneFormAnswer = (line : List ℕ) (g : GroupAt) (j : JahnAt) → SpellsRequest line (Form g j) → LineHasOneAnswer line
+
+abbrev pub OneGroupAnswer : Type 0
+OneGroupAnswer = (line : List ℕ) (g : GroupAt) → SpellsRequest line (Group g) → LineHasOneAnswer line
+
+abbrev pub OneAnswer : Type 0
+OneAnswer = (number : ℕ) (line a b : List ℕ) → IsAnswer number line a → IsAnswer number line b → a ≡ b
+
+abbrev pub OneOutput : Type 0
+OneOutput = (input a b : List ℕ) → AreAnswersOf IsAnswer input a → AreAnswersOf IsAnswer input b → a ≡ b

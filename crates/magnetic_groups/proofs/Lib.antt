@@ -1,0 +1,6 @@
+pub mod Reaching
+pub mod Marked
+pub mod Inverses
+pub mod Spans
+pub mod Cosets
+pub mod Members

@@ -1,0 +1,86 @@
+-- What is read off a group: places, subsets and frames.
+use Rattle.std.proofs.Common.{◌≡◌, ℕ, ◌<◌, ◌≤◌, Bool, true, false, List, length, refl, ap, sym, ◌∙◌, arith, subst, ◌⊎◌, inl, inr}
+use Rattle.std.specs.Prelude.{slice_index_or, slice_get, Option, Some, None, is_some, not, Contains, ◌↔◌, IsTrue, nat_eq}
+use Rattle.std.proofs.lemmas.List.{get_or_default}
+use Rattle.std.proofs.lemmas.List.Elements.{Contains-get_or}
+use Rattle.std.proofs.lemmas.Option.{slice_get-get_or}
+use Rattle.tensor_defs.specs.declared.OpKind.TheVariants.{Three}
+use Rattle.tensor_defs.specs.declared.Direction.TheVariants.{Z}
+use Rattle.tensor_defs.specs.Symbols.{operation_of}
+use Rattle.tensor_defs.specs.Operation.{Operation, identity}
+use Rattle.tensor_defs.specs.Frames.{IsPlain, IsHexagonal, AllOf, IsThe, IsFramed}
+use Rattle.op_matrix.specs.Tests.{nat_eq_means}
+use Rattle.op_matrix.specs.Table.{place}
+use Rattle.op_matrix.specs.Laws.{HasFrame}
+use Rattle.op_matrix.proofs.Order.{same_place}
+use Rattle.magnetic_groups.specs.Marks.{marked_below}
+use Rattle.magnetic_groups.specs.Sets.{In, HaveFrame, IsKept, IsFirstOutside, IsWithin, TellsOutside}
+use Rattle.magnetic_groups.proofs.Marked.{marked_length}
+
+pub member_framed : (items : List Operation) (g : Operation) → HaveFrame items → Contains items g → HasFrame g
+member_framed items g (inl f) c = inl (f g c)
+member_framed items g (inr f) c = inr (f g c)
+
+pub kept_length : (gens items : List Operation) (m : List Bool) → IsKept gens items m → length items ≤ 128
+kept_length gens items m i = subst (λ xs. length xs ≤ 128) (sym i.listed) (marked_length 128 m)
+
+-- the element at a place where the test of sameness passed
+pub found_at : (gens items view : List Operation) (m : List Bool) (n : ℕ) (g op : Operation) → IsKept gens items m →
+    items ≡ view → n < length items → g ≡ slice_index_or items n g → Contains view op →
+    nat_eq (place g) (place op) ≡ true → slice_get view n ≡ Some op
+found_at gens items view m n g op i e h at c t =
+    subst (λ xs. slice_get xs n ≡ Some op) e (slice_get-get_or items n g h ∙ ap Some (sym at ∙ same))
+  where
+    inside : Contains items g
+    inside = subst (Contains items) (sym at) (Contains-get_or items n g h)
+
+    same : g ≡ op
+    same =
+        same_place g op (member_framed items g i.group.frame inside)
+        (member_framed items op i.group.frame (subst (λ xs. Contains xs op) (sym e) c)) (nat_eq_means (place g) (place op) t)
+
+pub subset_told : (xs ys : List Operation) (r : Option ℕ) (b : Bool) → is_some r ≡ not b → TellsOutside xs ys r →
+    IsTrue b ↔ IsWithin xs ys
+subset_told xs ys None true e t = (λ h. t, λ w. refl)
+subset_told xs ys None false e t = cc
+subset_told xs ys (Some k) true e t = cc
+subset_told xs ys (Some k) false e t =
+    (λ h. absurd (false_true h),
+    λ w. absurd (t.outside identity (w (slice_index_or xs k identity) (Contains-get_or xs k identity t.below))))
+  where
+    false_true : false ≡ true → ⊥
+    false_true e = cc
+
+-- not all plain, so all hexagonal; then framed exactly where 3z is an element
+pub framed_told : (xs : List Operation) (turn : Operation) (p b : Bool) (o : Option Operation) → (IsTrue p ↔ AllOf (In xs) IsPlain) →
+    (p ≡ false → AllOf (In xs) IsHexagonal) → p ≡ false → o ≡ operation_of Three Z false → o ≡ Some turn →
+    (IsTrue b ↔ Contains xs turn) → IsTrue b ↔ IsFramed (In xs)
+framed_told xs turn p b o plain hex f e is has = (forth, back)
+  where
+    the : IsThe (operation_of Three Z false) turn
+    the = sym e ∙ is
+
+    out : {a c : Operation} → Some a ≡ Some c → a ≡ c
+    out e = cc
+
+    false_true : false ≡ true → ⊥
+    false_true e = cc
+
+    forth : IsTrue b → IsFramed (In xs)
+    forth t = inr (hex f, λ g h. subst (Contains xs) (out (sym the ∙ h)) (has.0 t))
+
+    back : IsFramed (In xs) → IsTrue b
+    back (inl a) = absurd (false_true (sym f ∙ plain.1 a))
+    back (inr a) = has.1 (a.1 turn the)
+
+-- an element that isn't plain makes the group hexagonal
+pub rest_hexagonal : (items view : List Operation) (n : ℕ) (g : Operation) (b : Bool) → HaveFrame items → items ≡ view →
+    n < length items → g ≡ slice_index_or items n g → (IsTrue b ↔ IsPlain g) → b ≡ false → AllOf (In view) IsHexagonal
+rest_hexagonal items view n g b f e h at t q = subst (λ xs. AllOf (In xs) IsHexagonal) e (by f)
+  where
+    false_true : false ≡ true → ⊥
+    false_true e = cc
+
+    by : HaveFrame items → AllOf (In items) IsHexagonal
+    by (inl p) = absurd (false_true (sym q ∙ t.1 (p g (subst (Contains items) (sym at) (Contains-get_or items n g h)))))
+    by (inr p) = p

@@ -1,0 +1,88 @@
+//! Refusals of a line.
+ghost use Rattle.std.specs.Prelude.{◌≡◌, ◌<◌, ◌≤◌, [], length, codes, MatchOption, MatchBool};
+ghost use Rattle.tensor_cli.specs.Stage.{IsBuilt, IsStageRefused, StageRefuses, stage_refusal_text};
+ghost use Rattle.tensor_cli.specs.Words.{spelling, word_of};
+
+use crate::text::ShortText;
+use itoa::Buffer;
+
+/// The most bytes of a line that is read as a request.
+const LONGEST: usize = 1000;
+
+/// The word of a refusal.
+#[derive(Clone, Copy, Debug, PartialEq, Eq, Drop)]
+pub enum Word {
+    Long,
+    Unbuilt,
+}
+
+impl Word {
+    /// How the word is written.
+    fn as_str(self) -> &'static str
+        ensures { result.now ≡ spelling self }
+    {
+        match self {
+            Word::Long => "long",
+            Word::Unbuilt => "unbuilt",
+        }
+    }
+}
+
+/// Why a line is refused, and the column that says so, counted from 1.
+#[derive(Clone, Copy, Debug, PartialEq, Eq, Drop)]
+pub struct Refusal {
+    pub word: Word,
+    pub column: u64,
+}
+
+impl Refusal {
+    /// The refusal of a line of more than 1000 bytes.
+    pub const LONG: Refusal = Refusal {
+        word: Word::Long,
+        column: LONGEST as u64 + 1,
+    };
+
+    /// The refusal of a line that is not answered yet.
+    const UNBUILT: Refusal = Refusal {
+        word: Word::Unbuilt,
+        column: 1,
+    };
+
+    /// The text of the refusal of a line with this number, in a fixed array.
+    pub fn text(self, number: u64) -> ShortText
+        ensures text { result ≡ stage_refusal_text number self.column (word_of self.word) }
+        ensures short { length result ≤ 64 }
+    {
+        let mut text = ShortText::new();
+        let mut buffer = Buffer::new();
+        text.push(b"error ");
+        text.push(buffer.format(number).as_bytes());
+        text.push(b" ");
+        text.push(buffer.format(self.column).as_bytes());
+        text.push(b" ");
+        text.push(self.word.as_str().as_bytes());
+        text.push(b"\n");
+        text
+    }
+}
+
+/// Whether the line is one that is answered.
+fn is_built(line: &[u8]) -> bool
+    ensures { MatchBool result (IsBuilt line.now) (IsBuilt line.now → ⊥) }
+{
+    line == b"form 2 V".as_slice()
+}
+
+/// The first refusal that applies to a line that isn't empty. Without one the line is one that is answered.
+pub fn refusal_of(line: &[u8]) -> Option<Refusal>
+    requires { 0 < length line.now }
+    ensures { MatchOption result ((IsStageRefused line.now → ⊥) × IsBuilt line.now) (λ refusal. StageRefuses line.now (word_of refusal.word) refusal.column) }
+{
+    if line.len() > LONGEST {
+        return Some(Refusal::LONG);
+    }
+    if is_built(line) {
+        return None;
+    }
+    Some(Refusal::UNBUILT)
+}
