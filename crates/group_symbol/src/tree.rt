@@ -78,7 +78,8 @@ impl SymbolTree {
 
     /// Whether it is grey.
     pub fn is_grey(&self) -> bool
-        ensures { result ≡ self.now.grey }
+        ensures value { result ≡ self.now.grey }
+        ensures symbol { IsGroupSymbol self.now }
     {
         self.grey
     }

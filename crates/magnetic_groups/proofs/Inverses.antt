@@ -1,5 +1,6 @@
 -- A closed set of operations of one frame holds their inverses, since the twelfth power of each is the identity.
-use Rattle.std.proofs.Common.{◌≡◌, ℕ, zero, suc, ◌<◌, Bool, true, false, List, refl, ap, sym, ◌∙◌, subst, lit<, inl, inr}
+use Rattle.std.proofs.Common.{◌≡◌, ℕ, zero, suc, ◌<◌, Bool, true, false, List, refl, ap, sym, ◌∙◌, subst, lit<, inl}
+use Rattle.std.proofs.Common.{inr}
 use Rattle.std.specs.Prelude.{Contains, nat_eq}
 use mathlib.Core.Bool.{xor}
 use Rattle.tensor_defs.specs.Operation.{Operation, IsProduct, identity}
@@ -53,30 +54,50 @@ unfolding frame_code
 zero_hex = refl
 
 -- an operation whose powers are all in a closed set has its inverse there
-module _ (F : Operation → Type 0) (one : F identity) (closed : (g h : Operation) → F g → F h → (k : Operation) × F k × IsProduct g h k)
+module _ (F : Operation → Type 0) (one : F identity) (closed : (g h : Operation) → F g → F h → (k : Operation) × F k ×
+    IsProduct g h k)
     (fr : Frame → Bool) (meet : (f f' : Frame) → fr f ≡ true → fr f' ≡ true → common f f' ≡ true)
-    (kept : (n m : ℕ) → n < 64 → m < 64 → fr (frame_code n) ≡ true → fr (frame_code m) ≡ true → fr (frame_code (product_code n m)) ≡ true) (zero_in : fr (frame_code 0) ≡ true) where
+    (kept : (n m : ℕ) → n < 64 → m < 64 → fr (frame_code n) ≡ true → fr (frame_code m) ≡ true →
+    fr (frame_code (product_code n m)) ≡ true) (zero_in : fr (frame_code 0) ≡ true) where
   abbrev PowerIn : ℕ → Bool → ℕ → Type 0
-  PowerIn n p k = (power_code n k < 64) × (fr (frame_code (power_code n k)) ≡ true) × F (operation_at (power_code n k) (mark_power p k))
+  PowerIn n p k = (power_code n k < 64) × (fr (frame_code (power_code n k)) ≡ true) ×
+      F (operation_at (power_code n k) (mark_power p k))
 
   power_in : (n : ℕ) (p : Bool) → n < 64 → fr (frame_code n) ≡ true → F (operation_at n p) → (k : ℕ) → PowerIn n p k
   unfolding power_code
   power_in n p h f m zero = (lit< tt, zero_in, subst F identity_is one)
   power_in n p h f m (suc k) =
       let r : PowerIn n p k = power_in n p h f m k in
-      let c : (x : Operation) × F x × IsProduct (operation_at n p) (operation_at (power_code n k) (mark_power p k)) x = closed (operation_at n p) (operation_at (power_code n k) (mark_power p k)) m r.2 in
-      let d : IsProduct (operation_at n p) (operation_at (power_code n k) (mark_power p k)) (operation_at (product_code n (power_code n k)) (xor p (mark_power p k))) = product_at n (power_code n k) p (mark_power p k) (xor p (mark_power p k)) h r.0 (meet (frame_code n) (frame_code (power_code n k)) f r.1) refl in
-      (product_code_below n (power_code n k) h r.0, kept n (power_code n k) h r.0 f r.1, subst F (product_unique (operation_at n p) (operation_at (power_code n k) (mark_power p k)) c.0 (operation_at (product_code n (power_code n k)) (xor p (mark_power p k))) c.2 d) c.1)
+      let c : (x : Operation) × F x × IsProduct (operation_at n p) (operation_at (power_code n k) (mark_power p k)) x =
+      closed (operation_at n p) (operation_at (power_code n k) (mark_power p k)) m r.2 in
+      let d : IsProduct (operation_at n p) (operation_at (power_code n k) (mark_power p k))
+      (operation_at (product_code n (power_code n k)) (xor p (mark_power p k))) =
+      product_at n (power_code n k) p (mark_power p k) (xor p (mark_power p k)) h r.0
+      (meet (frame_code n) (frame_code (power_code n k)) f r.1) refl in (
+        product_code_below n (power_code n k) h r.0,
+        kept n (power_code n k) h r.0 f r.1,
+        subst F
+            (product_unique (operation_at n p) (operation_at (power_code n k) (mark_power p k)) c.0
+            (operation_at (product_code n (power_code n k)) (xor p (mark_power p k))) c.2 d) c.1,
+      )
 
-  inverse_at : (n : ℕ) (p : Bool) → n < 64 → fr (frame_code n) ≡ true → F (operation_at n p) → InverseIn F (operation_at n p)
+  inverse_at : (n : ℕ) (p : Bool) → n < 64 → fr (frame_code n) ≡ true → F (operation_at n p) →
+      InverseIn F (operation_at n p)
   inverse_at n p h f m =
       let r : PowerIn n p 11 = power_in n p h f m 11 in
-      let t : (_ ≡ true) × (_ ≡ true) = both (nat_eq (product_code n (power_code n 11)) 0) (nat_eq (product_code (power_code n 11) n) 0) (below_told 64 twelfth twelfth_all n h) in
+      let t : (_ ≡ true) × (_ ≡ true) = both (nat_eq (product_code n (power_code n 11)) 0)
+      (nat_eq (product_code (power_code n 11) n) 0) (below_told 64 twelfth twelfth_all n h) in
       let k : Operation = operation_at (power_code n 11) (mark_power p 11) in (
         k,
         r.2,
-        subst (IsProduct (operation_at n p) k) (ap (λ x. operation_at x false) (nat_eq_means (product_code n (power_code n 11)) 0 t.0) ∙ sym identity_is) (product_at n (power_code n 11) p (mark_power p 11) false h r.0 (meet (frame_code n) (frame_code (power_code n 11)) f r.1) (no_mark p)),
-        subst (IsProduct k (operation_at n p)) (ap (λ x. operation_at x false) (nat_eq_means (product_code (power_code n 11) n) 0 t.1) ∙ sym identity_is) (product_at (power_code n 11) n (mark_power p 11) p false r.0 h (meet (frame_code (power_code n 11)) (frame_code n) r.1 f) (no_mark_left p)),
+        subst (IsProduct (operation_at n p) k) (ap (λ x. operation_at x false)
+            (nat_eq_means (product_code n (power_code n 11)) 0 t.0) ∙ sym identity_is)
+            (product_at n (power_code n 11) p (mark_power p 11) false h r.0
+            (meet (frame_code n) (frame_code (power_code n 11)) f r.1) (no_mark p)),
+        subst (IsProduct k (operation_at n p)) (ap (λ x. operation_at x false)
+            (nat_eq_means (product_code (power_code n 11) n) 0 t.1) ∙ sym identity_is)
+            (product_at (power_code n 11) n (mark_power p 11) p false r.0 h
+            (meet (frame_code (power_code n 11)) (frame_code n) r.1 f) (no_mark_left p)),
       )
 
   pub inverse_in : (g : Operation) → Coded fr g → F g → InverseIn F g

@@ -4,3 +4,4 @@ pub mod Inverses
 pub mod Spans
 pub mod Cosets
 pub mod Members
+pub mod SymbolFrames

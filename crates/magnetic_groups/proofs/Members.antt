@@ -1,7 +1,8 @@
 -- What is read off a group: places, subsets and frames.
-use Rattle.std.proofs.Common.{◌≡◌, ℕ, ◌<◌, ◌≤◌, Bool, true, false, List, length, refl, ap, sym, ◌∙◌, arith, subst, ◌⊎◌, inl, inr}
-use Rattle.std.specs.Prelude.{slice_index_or, slice_get, Option, Some, None, is_some, not, Contains, ◌↔◌, IsTrue, nat_eq}
-use Rattle.std.proofs.lemmas.List.{get_or_default}
+use Rattle.std.proofs.Common.{◌≡◌, ℕ, ◌<◌, ◌≤◌, Bool, true, false, List, length, refl, ap, sym, ◌∙◌, subst}
+use Rattle.std.proofs.Common.{inl, inr}
+use Rattle.std.specs.Prelude.{slice_index_or, slice_get, Option, Some, None, is_some, not, Contains, ◌↔◌, IsTrue}
+use Rattle.std.specs.Prelude.{nat_eq}
 use Rattle.std.proofs.lemmas.List.Elements.{Contains-get_or}
 use Rattle.std.proofs.lemmas.Option.{slice_get-get_or}
 use Rattle.tensor_defs.specs.declared.OpKind.TheVariants.{Three}
@@ -13,8 +14,7 @@ use Rattle.op_matrix.specs.Tests.{nat_eq_means}
 use Rattle.op_matrix.specs.Table.{place}
 use Rattle.op_matrix.specs.Laws.{HasFrame}
 use Rattle.op_matrix.proofs.Order.{same_place}
-use Rattle.magnetic_groups.specs.Marks.{marked_below}
-use Rattle.magnetic_groups.specs.Sets.{In, HaveFrame, IsKept, IsFirstOutside, IsWithin, TellsOutside}
+use Rattle.magnetic_groups.specs.Sets.{In, HaveFrame, IsKept, IsWithin, TellsOutside}
 use Rattle.magnetic_groups.proofs.Marked.{marked_length}
 
 pub member_framed : (items : List Operation) (g : Operation) → HaveFrame items → Contains items g → HasFrame g
@@ -37,22 +37,25 @@ found_at gens items view m n g op i e h at c t =
     same : g ≡ op
     same =
         same_place g op (member_framed items g i.group.frame inside)
-        (member_framed items op i.group.frame (subst (λ xs. Contains xs op) (sym e) c)) (nat_eq_means (place g) (place op) t)
+        (member_framed items op i.group.frame (subst (λ xs. Contains xs op) (sym e) c))
+        (nat_eq_means (place g) (place op) t)
 
 pub subset_told : (xs ys : List Operation) (r : Option ℕ) (b : Bool) → is_some r ≡ not b → TellsOutside xs ys r →
     IsTrue b ↔ IsWithin xs ys
 subset_told xs ys None true e t = (λ h. t, λ w. refl)
 subset_told xs ys None false e t = cc
 subset_told xs ys (Some k) true e t = cc
-subset_told xs ys (Some k) false e t =
-    (λ h. absurd (false_true h),
-    λ w. absurd (t.outside identity (w (slice_index_or xs k identity) (Contains-get_or xs k identity t.below))))
+subset_told xs ys (Some k) false e t = (
+  λ h. absurd (false_true h),
+  λ w. absurd (t.outside identity (w (slice_index_or xs k identity) (Contains-get_or xs k identity t.below))),
+)
   where
     false_true : false ≡ true → ⊥
     false_true e = cc
 
 -- not all plain, so all hexagonal; then framed exactly where 3z is an element
-pub framed_told : (xs : List Operation) (turn : Operation) (p b : Bool) (o : Option Operation) → (IsTrue p ↔ AllOf (In xs) IsPlain) →
+pub framed_told : (xs : List Operation) (turn : Operation) (p b : Bool) (o : Option Operation) →
+    (IsTrue p ↔ AllOf (In xs) IsPlain) →
     (p ≡ false → AllOf (In xs) IsHexagonal) → p ≡ false → o ≡ operation_of Three Z false → o ≡ Some turn →
     (IsTrue b ↔ Contains xs turn) → IsTrue b ↔ IsFramed (In xs)
 framed_told xs turn p b o plain hex f e is has = (forth, back)

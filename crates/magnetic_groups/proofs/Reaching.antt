@@ -1,14 +1,13 @@
 -- Closing a list of operations under the products with generators.
-use Rattle.std.proofs.Common.{◌≡◌, ◌≢◌, ℕ, zero, suc, ◌+◌, ◌-◌, ◌*◌, ◌<◌, ◌≤◌, Bool, true, false, List, [], ◌∷◌, ◌++◌, length, refl, ap, sym, ◌∙◌, arith, subst, lit<, cond, ◌⊎◌, inl, inr}
+use Rattle.std.proofs.Common.{◌≡◌, ℕ, zero, suc, ◌+◌, ◌-◌, ◌*◌, ◌<◌, ◌≤◌, Bool, true, false, List, [], ◌∷◌, ◌++◌}
+use Rattle.std.proofs.Common.{length, refl, ap, sym, ◌∙◌, arith, subst, ◌⊎◌, inl, inr}
 use Rattle.std.proofs.lemmas.Bool.Decides.{nat_tests}
-use Rattle.std.specs.Prelude.{nat_lt, replicate, set, slice_index_or, Contains, ◌↔◌}
+use Rattle.std.specs.Prelude.{nat_lt, replicate, set, slice_index_or, Contains}
 use Rattle.std.proofs.lemmas.List.{length-set, get_or_append_left, length-append}
 use Rattle.std.proofs.lemmas.List.Elements.{Contains-append_left, Contains-push, Contains-get_or, Contains-push_cases}
 use Rattle.tensor_defs.specs.Operation.{Operation, IsProduct, identity}
-use Rattle.tensor_defs.specs.Lists.{Each}
-use Rattle.tensor_defs.specs.Group.{IsProductOf, Generated}
 use Rattle.tensor_defs.specs.Frames.{IsPlain, IsHexagonal, HaveCommonFrame}
-use Rattle.tensor_laws.proofs.Products.{product_unique, generated_within}
+use Rattle.tensor_laws.proofs.Products.{generated_within}
 use Rattle.op_matrix.specs.Table.{nth_operation, place}
 use Rattle.op_matrix.proofs.Listed.{plain_product, hex_product, plain_identity, hex_identity}
 use Rattle.magnetic_groups.specs.Marks.{mark_at, Reached, Added, unmarked, IsClosing, Grows, TimesReached, IsDone}
@@ -47,40 +46,51 @@ set_unmarked (true ∷ bs) (suc p) h e = set_unmarked bs p (omega arith) e
 set_unmarked (false ∷ bs) (suc p) h e = ap (λ n. 1 + n) (set_unmarked bs p (omega arith) e)
 
 -- ---- spans
-pub spanned_times : (gens : List Operation) (s g k : Operation) → Contains gens s → Spanned gens g → IsProduct s g k → Spanned gens k
+pub spanned_times : (gens : List Operation) (s g k : Operation) → Contains gens s → Spanned gens g → IsProduct s g k →
+    Spanned gens k
 spanned_times gens s g k c h p = (s ∷ h.0, (c, h.1), (g, h.2, p))
 
 pub spanned_one : (gens : List Operation) → Spanned gens identity
 spanned_one gens = ([], tt, refl)
 
-pub spanned_plain : (gens : List Operation) → ((g : Operation) → Contains gens g → IsPlain g) → (k : Operation) → Spanned gens k → IsPlain k
-spanned_plain gens h = generated_within (λ s. Contains gens s) IsPlain plain_identity (λ s l c p. plain_product s l (h s c) p)
+pub spanned_plain : (gens : List Operation) → ((g : Operation) → Contains gens g → IsPlain g) → (k : Operation) →
+    Spanned gens k → IsPlain k
+spanned_plain gens h = generated_within (λ s. Contains gens s) IsPlain plain_identity
+    (λ s l c p. plain_product s l (h s c) p)
 
-pub spanned_hex : (gens : List Operation) → ((g : Operation) → Contains gens g → IsHexagonal g) → (k : Operation) → Spanned gens k → IsHexagonal k
-spanned_hex gens h = generated_within (λ s. Contains gens s) IsHexagonal hex_identity (λ s l c p. hex_product s l (h s c) p)
+pub spanned_hex : (gens : List Operation) → ((g : Operation) → Contains gens g → IsHexagonal g) → (k : Operation) →
+    Spanned gens k → IsHexagonal k
+spanned_hex gens h = generated_within (λ s. Contains gens s) IsHexagonal hex_identity
+    (λ s l c p. hex_product s l (h s c) p)
 
-pub spanned_framed : (gens : List Operation) (s g : Operation) → HaveFrame gens → Contains gens s → Spanned gens g → HaveCommonFrame s g
+pub spanned_framed : (gens : List Operation) (s g : Operation) → HaveFrame gens → Contains gens s → Spanned gens g →
+    HaveCommonFrame s g
 spanned_framed gens s g (inl h) c e = inl (h s c, spanned_plain gens h g e)
 spanned_framed gens s g (inr h) c e = inr (h s c, spanned_hex gens h g e)
 
-pub span_frame : (gens items : List Operation) → HaveFrame gens → ((k : Operation) → Contains items k → Spanned gens k) → HaveFrame items
+pub span_frame : (gens items : List Operation) → HaveFrame gens →
+    ((k : Operation) → Contains items k → Spanned gens k) → HaveFrame items
 span_frame gens items (inl h) e = inl (λ g c. spanned_plain gens h g (e g c))
 span_frame gens items (inr h) e = inr (λ g c. spanned_hex gens h g (e g c))
 
 -- ---- one more operation
-pub reached_spanned : (gens f : List Operation) (m : List Bool) (g : Operation) → IsClosing gens m f → Reached m g → Spanned gens g
+pub reached_spanned : (gens f : List Operation) (m : List Bool) (g : Operation) → IsClosing gens m f → Reached m g →
+    Spanned gens g
 reached_spanned gens f m g c r = subst (Spanned gens) (sym r.3) (c.sound r.0 r.2)
 
-pub reached_more : (m m' : List Bool) (g : Operation) → ((k : ℕ) → mark_at m k ≡ true → mark_at m' k ≡ true) → Reached m g → Reached m' g
+pub reached_more : (m m' : List Bool) (g : Operation) → ((k : ℕ) → mark_at m k ≡ true → mark_at m' k ≡ true) →
+    Reached m g → Reached m' g
 reached_more m m' g h r = (r.0, r.1, h r.0 r.2, r.3)
 
-pub times_more : (m m' : List Bool) (g s : Operation) → ((k : ℕ) → mark_at m k ≡ true → mark_at m' k ≡ true) → TimesReached m g s → TimesReached m' g s
+pub times_more : (m m' : List Bool) (g s : Operation) → ((k : ℕ) → mark_at m k ≡ true → mark_at m' k ≡ true) →
+    TimesReached m g s → TimesReached m' g s
 times_more m m' g s h t = (t.0, reached_more m m' t.0 h t.1, t.2)
 
 pub grows_refl : (m : List Bool) (f : List Operation) → Grows m f m f
 grows_refl m f = record { marks = λ k e. e; longer = omega arith; same = λ j d h. refl; work = omega arith }
 
-pub grows_trans : (m m' m'' : List Bool) (f f' f'' : List Operation) → Grows m f m' f' → Grows m' f' m'' f'' → Grows m f m'' f''
+pub grows_trans : (m m' m'' : List Bool) (f f' f'' : List Operation) → Grows m f m' f' → Grows m' f' m'' f'' →
+    Grows m f m'' f''
 grows_trans m m' m'' f f' f'' a b = record {
   marks = λ k e. b.marks k (a.marks k e);
   longer = omega arith;
@@ -94,42 +104,62 @@ Longer f g = length (f ++ g ∷ []) ≡ length f + 1
 longer_by_one : (f : List Operation) (g : Operation) → length (f ++ g ∷ []) ≡ length f + 1
 longer_by_one f g = omega (arith, length-append f (g ∷ []))
 
-pub added_grows : (g : Operation) (m m' : List Bool) (f f' : List Operation) → length m ≡ 128 → Added g m f m' f' → Grows m f m' f'
+pub added_grows : (g : Operation) (m m' : List Bool) (f f' : List Operation) → length m ≡ 128 → Added g m f m' f' →
+    Grows m f m' f'
 added_grows g m m' f f' l a = by a.either
   where
-    by : ((mark_at m (place g) ≡ true) × (m' ≡ m) × (f' ≡ f)) ⊎ ((mark_at m (place g) ≡ false) × (m' ≡ set m (place g) true) × (f' ≡ f ++ g ∷ [])) → Grows m f m' f'
+    by : ((mark_at m (place g) ≡ true) × (m' ≡ m) × (f' ≡ f)) ⊎
+        ((mark_at m (place g) ≡ false) × (m' ≡ set m (place g) true) × (f' ≡ f ++ g ∷ [])) → Grows m f m' f'
     by (inl (e, p, q)) = subst (λ x. Grows m f x f') (sym p) (subst (λ x. Grows m f m x) (sym q) (grows_refl m f))
-    by (inr (e, p, q)) = subst (λ x. Grows m f x f') (sym p) (subst (λ x. Grows m f (set m (place g) true) x) (sym q) (record {
-      marks = λ k. set_kept m (place g) k;
-      longer = let n = longer_by_one f g in omega (arith, n);
-      same = λ j d h. get_or_append_left f (g ∷ []) d j h;
-      work = let n = longer_by_one f g in let u = set_unmarked m (place g) (rw l a.below) e in omega (arith, n, u);
-    }))
+    by (inr (e, p, q)) = subst (λ x. Grows m f x f') (sym p) (subst (λ x. Grows m f (set m (place g) true) x) (sym q)
+        (record {
+          marks = λ k. set_kept m (place g) k;
+          longer = let n = longer_by_one f g in omega (arith, n);
+          same = λ j d h. get_or_append_left f (g ∷ []) d j h;
+          work = let n = longer_by_one f g in let u = set_unmarked m (place g) (rw l a.below) e in omega (arith, n, u);
+        }))
 
-pub added_reached : (g : Operation) (m m' : List Bool) (f f' : List Operation) → length m ≡ 128 → Added g m f m' f' → Reached m' g
+pub added_reached : (g : Operation) (m m' : List Bool) (f f' : List Operation) → length m ≡ 128 → Added g m f m' f' →
+    Reached m' g
 added_reached g m m' f f' l a = (place g, a.below, by a.either, a.at)
   where
-    by : ((mark_at m (place g) ≡ true) × (m' ≡ m) × (f' ≡ f)) ⊎ ((mark_at m (place g) ≡ false) × (m' ≡ set m (place g) true) × (f' ≡ f ++ g ∷ [])) → mark_at m' (place g) ≡ true
+    by : ((mark_at m (place g) ≡ true) × (m' ≡ m) × (f' ≡ f)) ⊎
+        ((mark_at m (place g) ≡ false) × (m' ≡ set m (place g) true) × (f' ≡ f ++ g ∷ [])) → mark_at m' (place g) ≡ true
     by (inl (e, p, q)) = ap (λ x. mark_at x (place g)) p ∙ e
     by (inr (e, p, q)) = ap (λ x. mark_at x (place g)) p ∙ set_new m (place g) (rw l a.below)
 
-added_new : (gens : List Operation) (g : Operation) (m : List Bool) (f : List Operation) → IsClosing gens m f → place g < 128 → g ≡ nth_operation (place g) → Spanned gens g → IsClosing gens (set m (place g) true) (f ++ g ∷ [])
+added_new : (gens : List Operation) (g : Operation) (m : List Bool) (f : List Operation) → IsClosing gens m f →
+    place g < 128 → g ≡ nth_operation (place g) → Spanned gens g → IsClosing gens (set m (place g) true) (f ++ g ∷ [])
 added_new gens g m f c below at s = record {
   sized = length-set m (place g) true ∙ c.sized;
-  sound = λ k e. elim (set_told m (place g) k e) [ inl h ↦ subst (Spanned gens) (at ∙ ap nth_operation (sym h)) s | inr h ↦ c.sound k h ];
-  waiting = λ k e. elim (set_told m (place g) k e) [ inl h ↦ subst (Contains (f ++ g ∷ [])) (at ∙ ap nth_operation (sym h)) (Contains-push f g) | inr h ↦ Contains-append_left f (g ∷ []) (nth_operation k) (c.waiting k h) ];
-  held = λ j d h. elim (Contains-push_cases f g (slice_index_or (f ++ g ∷ []) j d) (Contains-get_or (f ++ g ∷ []) j d h)) [
-    | inl i ↦ reached_more m (set m (place g) true) (slice_index_or (f ++ g ∷ []) j d) (λ k. set_kept m (place g) k) (subst (Reached m) i.2 (c.held i.0 (slice_index_or (f ++ g ∷ []) j d) i.1))
-    | inr e ↦ subst (Reached (set m (place g) true)) e (place g, below, set_new m (place g) (rw c.sized below), at)
+  sound = λ k e. elim (set_told m (place g) k e) [
+    | inl h ↦ subst (Spanned gens) (at ∙ ap nth_operation (sym h)) s
+    | inr
+        h ↦ c.sound k h
   ];
+  waiting = λ k e. elim (set_told m (place g) k e) [
+    | inl h ↦ subst (Contains (f ++ g ∷ []))
+        (at ∙ ap nth_operation (sym h)) (Contains-push f g)
+    | inr h ↦
+        Contains-append_left f (g ∷ []) (nth_operation k) (c.waiting k h)
+  ];
+  held = λ j d h. elim (Contains-push_cases f g (slice_index_or (f ++ g ∷ []) j d)
+      (Contains-get_or (f ++ g ∷ []) j d h)) [
+        | inl i ↦ reached_more m (set m (place g) true) (slice_index_or (f ++ g ∷ []) j d) (λ k. set_kept m (place g) k)
+            (subst (Reached m) i.2 (c.held i.0 (slice_index_or (f ++ g ∷ []) j d) i.1))
+        | inr e ↦ subst (Reached (set m (place g) true)) e (place g, below, set_new m (place g) (rw c.sized below), at)
+      ];
 }
 
-pub added_closing : (gens : List Operation) (g : Operation) (m m' : List Bool) (f f' : List Operation) → IsClosing gens m f → Added g m f m' f' → Spanned gens g → IsClosing gens m' f'
+pub added_closing : (gens : List Operation) (g : Operation) (m m' : List Bool) (f f' : List Operation) →
+    IsClosing gens m f → Added g m f m' f' → Spanned gens g → IsClosing gens m' f'
 added_closing gens g m m' f f' c a s = by a.either
   where
-    by : ((mark_at m (place g) ≡ true) × (m' ≡ m) × (f' ≡ f)) ⊎ ((mark_at m (place g) ≡ false) × (m' ≡ set m (place g) true) × (f' ≡ f ++ g ∷ [])) → IsClosing gens m' f'
+    by : ((mark_at m (place g) ≡ true) × (m' ≡ m) × (f' ≡ f)) ⊎
+        ((mark_at m (place g) ≡ false) × (m' ≡ set m (place g) true) × (f' ≡ f ++ g ∷ [])) → IsClosing gens m' f'
     by (inl (e, p, q)) = subst (λ x. IsClosing gens x f') (sym p) (subst (IsClosing gens m) (sym q) c)
-    by (inr (e, p, q)) = subst (λ x. IsClosing gens x f') (sym p) (subst (IsClosing gens (set m (place g) true)) (sym q) (added_new gens g m f c a.below a.at s))
+    by (inr (e, p, q)) = subst (λ x. IsClosing gens x f') (sym p)
+        (subst (IsClosing gens (set m (place g) true)) (sym q) (added_new gens g m f c a.below a.at s))
 
 nat_split_by : (q n : ℕ) (b : Bool) → nat_lt q n ≡ b → (q < n) ⊎ (n ≤ q)
 nat_split_by q n true e = let h : q < n = grind (arith, nat_tests) in inl h
@@ -139,18 +169,24 @@ pub nat_split : (q n : ℕ) → (q < n) ⊎ (n ≤ q)
 nat_split q n = nat_split_by q n (nat_lt q n) refl
 
 -- ---- the products of one element with all generators
-pub record IsReaching (gens : List Operation) (g : Operation) (n : ℕ) (m : List Bool) (f : List Operation) (m' : List Bool) (f' : List Operation) : Type 0 where
+pub record IsReaching (gens : List Operation) (g : Operation) (n : ℕ) (m : List Bool) (f : List Operation)
+    (m' : List Bool) (f' : List Operation) : Type 0 where
   pub closing : IsClosing gens m' f'
   pub grows : Grows m f m' f'
   pub done : (q : ℕ) (d : Operation) → q < n → TimesReached m' g (slice_index_or gens q d)
 
-pub reaching_none : (gens : List Operation) (g : Operation) (m : List Bool) (f : List Operation) → IsClosing gens m f → IsReaching gens g 0 m f m f
+pub reaching_none : (gens : List Operation) (g : Operation) (m : List Bool) (f : List Operation) → IsClosing gens m f →
+    IsReaching gens g 0 m f m f
 reaching_none gens g m f c = record { closing = c; grows = grows_refl m f; done = λ q d h. absurd (omega arith) }
 
-pub reaching_more : (gens : List Operation) (g : Operation) (n : ℕ) (m m' m'' : List Bool) (f f' f'' : List Operation) (s k : Operation) → IsReaching gens g n m f m' f' → n < length gens → ((d : Operation) → slice_index_or gens n d ≡ s) → Reached m g → IsProduct s g k → Added k m' f' m'' f'' → IsReaching gens g (n + 1) m f m'' f''
+pub reaching_more : (gens : List Operation) (g : Operation) (n : ℕ) (m m' m'' : List Bool) (f f' f'' : List Operation)
+    (s k : Operation) → IsReaching gens g n m f m' f' → n < length gens →
+    ((d : Operation) → slice_index_or gens n d ≡ s) → Reached m g → IsProduct s g k → Added k m' f' m'' f'' →
+    IsReaching gens g (n + 1) m f m'' f''
 reaching_more gens g n m m' m'' f f' f'' s k i h at r p a =
     let c : Contains gens s = (n, h, at s) in
-    let sp : Spanned gens k = spanned_times gens s g k c (reached_spanned gens f' m' g i.closing (reached_more m m' g i.grows.marks r)) p in
+    let sp : Spanned gens k = spanned_times gens s g k c (reached_spanned gens f' m' g i.closing
+    (reached_more m m' g i.grows.marks r)) p in
     let gr : Grows m' f' m'' f'' = added_grows k m' m'' f' f'' i.closing.sized a in
     record {
       closing = added_closing gens k m' m'' f' f'' i.closing a sp;
@@ -158,9 +194,11 @@ reaching_more gens g n m m' m'' f f' f'' s k i h at r p a =
       done = λ q d b. last_or_before q d b gr (added_reached k m' m'' f' f'' i.closing.sized a) (nat_split q n);
     }
   where
-    last_or_before : (q : ℕ) (d : Operation) → q < n + 1 → Grows m' f' m'' f'' → Reached m'' k → (q < n) ⊎ (n ≤ q) → TimesReached m'' g (slice_index_or gens q d)
+    last_or_before : (q : ℕ) (d : Operation) → q < n + 1 → Grows m' f' m'' f'' → Reached m'' k → (q < n) ⊎ (n ≤ q) →
+        TimesReached m'' g (slice_index_or gens q d)
     last_or_before q d b gr rk (inl l) = times_more m' m'' g (slice_index_or gens q d) gr.marks (i.done q d l)
-    last_or_before q d b gr rk (inr l) = let e : q ≡ n = omega arith in (k, rk, subst (λ x. IsProduct x g k) (sym (ap (λ x. slice_index_or gens x d) e ∙ at d)) p)
+    last_or_before q d b gr rk (inr l) = let e : q ≡ n = omega arith in
+        (k, rk, subst (λ x. IsProduct x g k) (sym (ap (λ x. slice_index_or gens x d) e ∙ at d)) p)
 
 -- ---- the whole closing
 pub record IsClosed (gens : List Operation) (n : ℕ) (m : List Bool) (f : List Operation) : Type 0 where
@@ -177,7 +215,8 @@ blank (suc n) (suc k) = blank n k
 no_mark : (n k : ℕ) → mark_at (replicate n false) k ≡ true → ⊥
 no_mark n k e = let h = blank n k in cc
 
-pub closed_none : (gens : List Operation) (m m' : List Bool) (f f' : List Operation) → m ≡ replicate 128 false → length m ≡ 128 → f ≡ [] → Added identity m f m' f' → IsClosed gens 0 m' f'
+pub closed_none : (gens : List Operation) (m m' : List Bool) (f f' : List Operation) → m ≡ replicate 128 false →
+    length m ≡ 128 → f ≡ [] → Added identity m f m' f' → IsClosed gens 0 m' f'
 closed_none gens m m' f f' e l q a = record {
   closing = added_closing gens identity m m' f f' start a (spanned_one gens);
   one = added_reached identity m m' f f' l a;
@@ -199,7 +238,9 @@ closed_none gens m m' f f' e l q a = record {
         empty : (j : ℕ) → j < 0 → ⊥
         empty j h = omega arith
 
-pub closed_more : (gens : List Operation) (n : ℕ) (m m' : List Bool) (f f' : List Operation) (g : Operation) → IsClosed gens n m f → n < length f → ((d : Operation) → slice_index_or f n d ≡ g) → IsClosing gens m' f' → Grows m f m' f' → IsDone gens m' g → IsClosed gens (n + 1) m' f'
+pub closed_more : (gens : List Operation) (n : ℕ) (m m' : List Bool) (f f' : List Operation) (g : Operation) →
+    IsClosed gens n m f → n < length f → ((d : Operation) → slice_index_or f n d ≡ g) → IsClosing gens m' f' →
+    Grows m f m' f' → IsDone gens m' g → IsClosed gens (n + 1) m' f'
 closed_more gens n m m' f f' g c h at cl gr dn = record {
   closing = cl;
   one = reached_more m m' identity gr.marks c.one;
@@ -208,21 +249,30 @@ closed_more gens n m m' f f' g c h at cl gr dn = record {
 }
   where
     by : (j : ℕ) (d : Operation) → j < n + 1 → (j < n) ⊎ (n ≤ j) → IsDone gens m' (slice_index_or f' j d)
-    by j d l (inl a) = subst (IsDone gens m') (sym (gr.same j d (before a))) (λ q e b. times_more m m' (slice_index_or f j d) (slice_index_or gens q e) gr.marks (c.done j d a q e b))
+    by j d l (inl a) = subst (IsDone gens m') (sym (gr.same j d (before a)))
+        (λ q e b. times_more m m' (slice_index_or f j d) (slice_index_or gens q e) gr.marks (c.done j d a q e b))
       where
         before : j < n → j < length f
         before a = omega arith
-    by j d l (inr a) = let e : j ≡ n = omega arith in subst (IsDone gens m') (sym (gr.same j d (rw e h) ∙ ap (λ x. slice_index_or f x d) e ∙ at d)) dn
+    by j d l (inr a) = let e : j ≡ n = omega arith in subst (IsDone gens m')
+        (sym (gr.same j d (rw e h) ∙ ap (λ x. slice_index_or f x d) e ∙ at d)) dn
 
-pub work_falls : (n : ℕ) (m m' : List Bool) (f f' : List Operation) → n < length f → Grows m f m' f' → 2 * unmarked m' + length f' - (n + 1) < 2 * unmarked m + length f - n
+pub work_falls : (n : ℕ) (m m' : List Bool) (f f' : List Operation) → n < length f → Grows m f m' f' →
+    2 * unmarked m' + length f' - (n + 1) < 2 * unmarked m + length f - n
 work_falls n m m' f f' h g = let a = g.work in let b = g.longer in omega arith
 
-pub reached_all : (gens : List Operation) (n : ℕ) (m : List Bool) (f : List Operation) → IsClosed gens n m f → length f ≤ n → (k : Operation) → Spanned gens k → Reached m k
+pub reached_all : (gens : List Operation) (n : ℕ) (m : List Bool) (f : List Operation) → IsClosed gens n m f →
+    length f ≤ n → (k : Operation) → Spanned gens k → Reached m k
 reached_all gens n m f c h = generated_within (λ s. Contains gens s) (Reached m) c.one step
   where
     step : (s l : Operation) → Contains gens s → Reached m l → (k : Operation) × Reached m k × IsProduct s l k
     step s l cs r =
         let w : Contains f l = subst (Contains f) (sym r.3) (c.closing.waiting r.0 r.2) in
         let a = w.1 in
-        let t : TimesReached m (slice_index_or f w.0 l) (slice_index_or gens cs.0 s) = c.done w.0 l (omega arith) cs.0 s cs.1 in
-        (t.0, t.1, subst (λ x. IsProduct x l t.0) cs.2 (subst (λ x. IsProduct (slice_index_or gens cs.0 s) x t.0) w.2 t.2))
+        let t : TimesReached m (slice_index_or f w.0 l) (slice_index_or gens cs.0 s) =
+        c.done w.0 l (omega arith) cs.0 s cs.1 in (
+          t.0,
+          t.1,
+          subst (λ x. IsProduct x l t.0) cs.2 (subst (λ x. IsProduct (slice_index_or gens cs.0 s) x t.0) w.2
+              t.2),
+        )

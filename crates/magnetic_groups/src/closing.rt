@@ -79,14 +79,22 @@ pub fn close(alloc: Global, generators: Vec<Op>) -> Result<Group, AllocError>
     })
 }
 
-/// The operations and one more at their end.
-pub fn extended(alloc: Global, operations: &[Op], last: &Op) -> Result<Vec<Op>, AllocError>
-    ensures { IfOk result (λ v. v.items ≡ operations.now ++ last.now ∷ []) }
+/// A copy of the operations.
+pub fn copied(alloc: Global, operations: &[Op]) -> Result<Vec<Op>, AllocError>
+    ensures { IfOk result (λ v. v.items ≡ operations.now) }
 {
     let mut all = Vec::new(alloc);
     for operation in operations {
         all.push(*operation)?;
     }
+    Ok(all)
+}
+
+/// The operations and one more at their end.
+pub fn extended(alloc: Global, operations: &[Op], last: &Op) -> Result<Vec<Op>, AllocError>
+    ensures { IfOk result (λ v. v.items ≡ operations.now ++ last.now ∷ []) }
+{
+    let mut all = copied(alloc, operations)?;
     all.push(*last)?;
     Ok(all)
 }

@@ -3,11 +3,16 @@ ghost use Rattle.std.specs.Prelude.{◌≡◌, ◌↔◌, ◌+◌, ◌<◌, ◌�
 ghost use Rattle.tensor_cli.specs.Reads.{Stands};
 ghost use Rattle.tensor_cli.specs.Stage.{StageAnswer, IsStageRefused, IsQuick, stage_refusal_text};
 ghost use Rattle.tensor_cli.specs.Words.{word_of};
+ghost use Rattle.tensor_cli.specs.Elements.{ElementsEnd};
 
+use crate::asked::{Asked, asked_of};
+use crate::elements::append_elements;
 use crate::forms::write_vector_form;
 use crate::memory::{NoMemory, append};
-use crate::refusals::{Refusal, refusal_of};
+use crate::refusals::Refusal;
 use crate::vectors::free_components;
+use group_symbol::SymbolTree;
+use magnetic_groups::{GroupFault, build_group};
 use std::alloc::Global;
 
 /// How the answer of a line ended.
@@ -39,6 +44,31 @@ pub fn refuse_long(number: u64, out: &mut Vec<u8>) -> Result<(), NoMemory>
     refuse(number, Refusal::LONG, out)
 }
 
+/// Appends the answer to a request for the elements of the group of a symbol, or its refusal. After `NoMemory` the list is
+/// as before.
+fn answer_elements(
+    alloc: Global,
+    number: u64,
+    tree: &SymbolTree,
+    out: &mut Vec<u8>,
+) -> Result<LineEnd, NoMemory>
+    ensures ok { IfOk result (λ end. ElementsEnd number tree.now out.old.items out.new.items end) }
+    ensures err { OnErr result (out.new.items ≡ out.old.items) }
+    ensures capacity { vec_capacity out.old ≤ vec_capacity out.new }
+{
+    match build_group(alloc, tree) {
+        Ok(group) => {
+            append_elements(alloc, tree, &group, out)?;
+            Ok(LineEnd::Answered)
+        }
+        Err(GroupFault::Primes) => {
+            refuse(number, Refusal::PRIMES, out)?;
+            Ok(LineEnd::Refused)
+        }
+        Err(GroupFault::NoMemory) => Err(NoMemory),
+    }
+}
+
 /// Appends the answer of a line or its refusal. A line of more than 1000 bytes is given by its first 1001. After
 /// `NoMemory` the list is as before.
 pub fn answer_line(
@@ -60,16 +90,17 @@ pub fn answer_line(
     if line.is_empty() {
         return Ok(LineEnd::Empty);
     }
-    match refusal_of(line) {
-        Some(refusal) => {
+    match asked_of(line) {
+        Asked::Refused(refusal) => {
             refuse(number, refusal, out)?;
             Ok(LineEnd::Refused)
         }
-        None => {
+        Asked::Vector => {
             let free = free_components(alloc)?;
             write_vector_form(free, out)?;
             Ok(LineEnd::Answered)
         }
+        Asked::Elements(tree) => answer_elements(alloc, number, &tree, out),
     }
 }
 

@@ -2,7 +2,9 @@
 #![tactic(auto)]
 
 mod answers;
+mod asked;
 mod buffer;
+mod elements;
 mod forms;
 mod laws;
 mod memory;

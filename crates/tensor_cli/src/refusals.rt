@@ -7,12 +7,13 @@ use crate::text::ShortText;
 use itoa::Buffer;
 
 /// The most bytes of a line that is read as a request.
-const LONGEST: usize = 1000;
+pub const LONGEST: usize = 1000;
 
 /// The word of a refusal.
 #[derive(Clone, Copy, Debug, PartialEq, Eq, Drop)]
 pub enum Word {
     Long,
+    Primes,
     Unbuilt,
 }
 
@@ -23,6 +24,7 @@ impl Word {
     {
         match self {
             Word::Long => "long",
+            Word::Primes => "primes",
             Word::Unbuilt => "unbuilt",
         }
     }
@@ -42,8 +44,14 @@ impl Refusal {
         column: LONGEST as u64 + 1,
     };
 
+    /// The refusal of a request for the elements of a group whose symbol isn't accepted.
+    pub const PRIMES: Refusal = Refusal {
+        word: Word::Primes,
+        column: 7,
+    };
+
     /// The refusal of a line that is not answered yet.
-    const UNBUILT: Refusal = Refusal {
+    pub const UNBUILT: Refusal = Refusal {
         word: Word::Unbuilt,
         column: 1,
     };
@@ -64,25 +72,4 @@ impl Refusal {
         text.push(b"\n");
         text
     }
-}
-
-/// Whether the line is one that is answered.
-fn is_built(line: &[u8]) -> bool
-    ensures { MatchBool result (IsBuilt line.now) (IsBuilt line.now → ⊥) }
-{
-    line == b"form 2 V".as_slice()
-}
-
-/// The first refusal that applies to a line that isn't empty. Without one the line is one that is answered.
-pub fn refusal_of(line: &[u8]) -> Option<Refusal>
-    requires { 0 < length line.now }
-    ensures { MatchOption result ((IsStageRefused line.now → ⊥) × IsBuilt line.now) (λ refusal. StageRefuses line.now (word_of refusal.word) refusal.column) }
-{
-    if line.len() > LONGEST {
-        return Some(Refusal::LONG);
-    }
-    if is_built(line) {
-        return None;
-    }
-    Some(Refusal::UNBUILT)
 }

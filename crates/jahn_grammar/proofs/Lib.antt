@@ -1,0 +1,9 @@
+pub mod Trees
+pub mod Atoms
+pub mod AtomReads
+pub mod FactorTexts
+pub mod FactorReads
+pub mod TreeReads
+pub mod Marks
+pub mod Scans
+pub mod Written

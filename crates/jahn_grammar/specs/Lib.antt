@@ -1,0 +1,5 @@
+pub mod Trees
+pub mod Codes
+pub mod Symbols
+pub mod Views
+pub mod Laws

@@ -1,0 +1,50 @@
+//! Orders of groups, and what is refused.
+use super::*;
+use group_symbol::read_group;
+use std::test::Fail;
+
+#[test]
+fn orders_and_refusals(rt: HostRuntime) -> Result<(), Fail> {
+    let rows = [
+        ("1", 1),
+        ("1'", 2),
+        ("2'", 2),
+        ("m'-3'm'", 48),
+        ("m'-3'", 24),
+        ("m'-3", 0),
+        ("3'", 0),
+        ("3m1'", 12),
+        ("6/mmm", 24),
+        ("m-3m1'", 96),
+    ];
+    for (text, order) in rows {
+        let Ok(tree) = read_group(text.as_bytes()) else {
+            panic!(rt; "{text} isn't read");
+        };
+        match build_group(rt.alloc(), &tree) {
+            Ok(group) => {
+                assert_eq!(rt; group.len(), order, "{text}");
+                assert!(rt; group.is_framed() && group.has(&Op::identity()));
+            }
+            Err(fault) => {
+                assert_eq!(rt; fault, GroupFault::Primes, "{text}");
+                assert_eq!(rt; order, 0, "{text}");
+            }
+        }
+    }
+    Ok(())
+}
+
+#[test]
+fn a_joined_group(rt: HostRuntime) -> Result<(), Fail> {
+    let one = Group::trivial(rt.alloc())?;
+    assert_eq!(rt; one.len(), 1);
+    let reversal = Op::reversal();
+    assert!(rt; reversal.is_plain() && one.is_all_plain());
+    let grey = one.joined(rt.alloc(), &reversal)?;
+    assert_eq!(rt; grey.len(), 2);
+    assert_eq!(rt; grey.place_of(&reversal), Some(1));
+    assert_eq!(rt; grey.first_outside(&one), Some(1));
+    assert!(rt; one.is_subset(&grey) && !grey.is_subset(&one) && one.place_of(&reversal).is_none());
+    Ok(())
+}

@@ -1,0 +1,7 @@
+pub mod EngineLaws
+pub mod SignLaws
+pub mod MoveLaws
+pub mod ClassLaws
+pub mod JoinedLaws
+pub mod BestLaws
+pub mod FirstLaws

@@ -1,0 +1,15 @@
+ghost use Rattle.std.specs.Prelude.{◌≡◌};
+ghost use Rattle.sign_moves.specs.Signs.{times};
+
+use tensor_defs::Sign;
+
+/// The product of two signs.
+pub fn times(one: Sign, other: Sign) -> Sign
+    ensures { result ≡ times one other }
+{
+    match (one, other) {
+        (Sign::Plus, sign) => sign,
+        (Sign::Minus, Sign::Plus) => Sign::Minus,
+        (Sign::Minus, Sign::Minus) => Sign::Plus,
+    }
+}

@@ -1,0 +1,333 @@
+-- The exchanges of index lists are those of component numbers.
+use Rattle.std.proofs.Common.{◌≡◌, ℕ, zero, suc, ◌+◌, ◌-◌, ◌*◌, ◌^◌, ◌<◌, ◌≤◌, Bool, true, false, cond, List, [], ◌∷◌, ◌++◌, length, get_or, take, drop, refl, ap, sym, ◌∙◌, arith, subst, inl, inr, ◌⊎◌}
+use Rattle.std.specs.Prelude.{Contains}
+use Rattle.std.proofs.lemmas.Bool.{cases_lt}
+use Rattle.std.proofs.lemmas.Bool.Decides.{nat_tests}
+use Rattle.tensor_defs.specs.Number.{Number, neg}
+use Rattle.number_laws.proofs.NumberLaws.{num_neg-neg}
+use Rattle.tensor_defs.specs.Operation.{Axis, x1}
+use Rattle.tensor_defs.specs.Tensor.{Index, Tensor, axis_place, component_number, index_of}
+use Rattle.tensor_defs.specs.Lists.{Each}
+use Rattle.tensor_defs.specs.Jahn.{Bracket, IsExchange, Respects}
+use Rattle.tensor_laws.proofs.ComponentNumbers.{length-index_of, number-index_of}
+use Rattle.tensor_defs.specs.declared.Sign.{Sign}
+use Rattle.tensor_defs.specs.declared.Sign.TheVariants.{Plus, Minus}
+use Rattle.sign_moves.specs.Signs.{signed}
+use Rattle.sign_moves.specs.Moves.{IsKept}
+use Rattle.tensor_rank.specs.declared.exchanges.Exchange.{Exchange}
+use Rattle.tensor_rank.specs.Digits.{digit_of, number_of}
+use Rattle.tensor_rank.specs.Exchanges.{partner, exchanged, sign_of_exchange, exchange_moves}
+use Rattle.tensor_rank.specs.Within.{IsWithin, AllWithin, exchange_at}
+use Rattle.tensor_rank.proofs.ExchangeLaws.{partner_below}
+use Rattle.tensor_rank.specs.Symmetry.{exchange_of, with_earlier, each_two, exchanges_of}
+use Rattle.tensor_rank.specs.IndexLaws.{nth, index_number_at, component_below_at, digit_list, index_of_digits}
+use Rattle.std.proofs.lemmas.List.{get_or_append_left, get_or-append-add, take-append-drop, length-append, length-take-le, length-drop, append_assoc}
+
+-- ---- parts of a list
+at_1 : (a rest : Index) (p : ℕ) → p < length a → nth (a ++ rest) p ≡ nth a p
+at_1 a rest p h = get_or_append_left a rest x1 p h
+
+past : (a rest : Index) (p q : ℕ) → p ≡ length a + q → nth (a ++ rest) p ≡ nth rest q
+past a rest p q e = ap (nth (a ++ rest)) e ∙ get_or-append-add a rest q x1
+
+at_2 : (a b rest : Index) (p q : ℕ) → p ≡ length a + q → q < length b → nth (a ++ (b ++ rest)) p ≡ nth b q
+at_2 a b rest p q e h = past a (b ++ rest) p q e ∙ at_1 b rest q h
+
+at_3 : (a b c rest : Index) (p q : ℕ) → p ≡ length a + (length b + q) → q < length c → nth (a ++ (b ++ (c ++ rest))) p ≡ nth c q
+at_3 a b c rest p q e h = past a (b ++ (c ++ rest)) p (length b + q) e ∙ at_2 b c rest (length b + q) q refl h
+
+at_4 : (a b c d rest : Index) (p q : ℕ) → p ≡ length a + (length b + (length c + q)) → q < length d → nth (a ++ (b ++ (c ++ (d ++ rest)))) p ≡ nth d q
+at_4 a b c d rest p q e h = past a (b ++ (c ++ (d ++ rest))) p (length b + (length c + q)) e ∙ at_3 b c d rest (length b + (length c + q)) q refl h
+
+at_5 : (a b c d rest : Index) (p q : ℕ) → p ≡ length a + (length b + (length c + (length d + q))) → nth (a ++ (b ++ (c ++ (d ++ rest)))) p ≡ nth rest q
+at_5 a b c d rest p q e = past a (b ++ (c ++ (d ++ rest))) p (length b + (length c + (length d + q))) e ∙ past b (c ++ (d ++ rest)) (length b + (length c + (length d + q))) (length c + (length d + q)) refl ∙ past c (d ++ rest) (length c + (length d + q)) (length d + q) refl ∙ past d rest (length d + q) q refl
+
+-- ---- where a place goes
+abbrev swap : ℕ → ℕ → ℕ → Bool → Exchange
+swap f s w n = record { first = f; second = s; width = w; negates = n }
+
+outside : (f s w p : ℕ) (n : Bool) → f + w ≤ s → (p < f) ⊎ (((f + w ≤ p) × (p < s)) ⊎ (s + w ≤ p)) → partner (swap f s w n) p ≡ p
+outside f s w p n h (inl l) = grind (arith, nat_tests)
+outside f s w p n h (inr (inl l)) = let l0 = l.0 in let l1 = l.1 in grind (arith, nat_tests)
+outside f s w p n h (inr (inr l)) = grind (arith, nat_tests)
+
+from_first : (f s w p : ℕ) (n : Bool) → f + w ≤ s → f ≤ p → p < f + w → partner (swap f s w n) p ≡ p + (s - f)
+from_first f s w p n h l k = grind (arith, nat_tests)
+
+from_second : (f s w p : ℕ) (n : Bool) → f + w ≤ s → s ≤ p → p < s + w → partner (swap f s w n) p ≡ p - (s - f)
+from_second f s w p n h l k = grind (arith, nat_tests)
+
+five : (a u k v z : Index) (f s w : ℕ) (n : Bool) → length a ≡ f → length u ≡ w → length v ≡ w → length a + (length u + length k) ≡ s → (p : ℕ)
+    → nth (a ++ (v ++ (k ++ (u ++ z)))) p ≡ nth (a ++ (u ++ (k ++ (v ++ z)))) (partner (swap f s w n) p)
+five a u k v z f s w n la lu lv lk p =
+    let apart : f + w ≤ s = omega arith in
+    elim (cases_lt p f) [
+      | inl h ↦
+          at_1 a (v ++ (k ++ (u ++ z))) p (omega arith) ∙ sym (at_1 a (u ++ (k ++ (v ++ z))) p (omega arith))
+          ∙ ap (nth (a ++ (u ++ (k ++ (v ++ z))))) (sym (outside f s w p n apart (inl h)))
+      | inr h ↦ elim (cases_lt p (f + w)) [
+        | inl l ↦
+            let goes : partner (swap f s w n) p ≡ p + (s - f) = from_first f s w p n apart h l in
+            at_2 a v (k ++ (u ++ z)) p (p - f) (omega arith) (omega arith)
+            ∙ sym (at_4 a u k v z (partner (swap f s w n) p) (p - f) (goes ∙ omega arith) (omega arith))
+        | inr l ↦ elim (cases_lt p s) [
+          | inl m ↦
+              at_3 a v k (u ++ z) p (p - (f + w)) (omega arith) (omega arith)
+              ∙ sym (at_3 a u k (v ++ z) p (p - (f + w)) (omega arith) (omega arith))
+              ∙ ap (nth (a ++ (u ++ (k ++ (v ++ z))))) (sym (outside f s w p n apart (inr (inl (l, m)))))
+          | inr m ↦ elim (cases_lt p (s + w)) [
+            | inl q ↦
+                let goes : partner (swap f s w n) p ≡ p - (s - f) = from_second f s w p n apart m q in
+                at_4 a v k u z p (p - s) (omega arith) (omega arith)
+                ∙ sym (at_2 a u (k ++ (v ++ z)) (partner (swap f s w n) p) (p - s) (goes ∙ omega arith) (omega arith))
+            | inr q ↦
+                at_5 a v k u z p (p - (s + w)) (omega arith)
+                ∙ sym (at_5 a u k v z p (p - (s + w)) (omega arith))
+                ∙ ap (nth (a ++ (u ++ (k ++ (v ++ z))))) (sym (outside f s w p n apart (inr (inr q))))
+          ]
+        ]
+      ]
+    ]
+
+-- ---- an exchange of index lists
+assoc_5 : (a b c d e : Index) → a ++ b ++ c ++ d ++ e ≡ a ++ (b ++ (c ++ (d ++ e)))
+assoc_5 a b c d e = append_assoc (a ++ b ++ c) d e ∙ append_assoc (a ++ b) c (d ++ e) ∙ append_assoc a b (c ++ (d ++ e))
+
+module _ {r : ℕ} {b : Bracket} {is js : Index} (x : IsExchange r b is js) where
+  -- the exchange of component numbers
+  abbrev pub its_exchange : Exchange
+  its_exchange = exchange_of b x.i x.j
+
+  starts_second : length x.before + (length x.u + length x.between) ≡ b.start + x.j * b.size
+  starts_second =
+      let e : length (x.before ++ x.u ++ x.between) ≡ length x.before + length x.u + length x.between = length-append (x.before ++ x.u) x.between ∙ ap (λ n. n + length x.between) (length-append x.before x.u) in
+      let f = x.starts_j in
+      omega (arith, e, f)
+
+  length_of : (a c d e f : Index) → length (a ++ c ++ d ++ e ++ f) ≡ length a + length c + length d + length e + length f
+  length_of a c d e f = length-append (a ++ c ++ d ++ e) f ∙ ap (λ n. n + length f) (length-append (a ++ c ++ d) e ∙ ap (λ n. n + length e) (length-append (a ++ c) d ∙ ap (λ n. n + length d) (length-append a c)))
+
+  pub length_exchanged : length js ≡ r
+  length_exchanged =
+      let one : length is ≡ length x.before + length x.u + length x.between + length x.v + length x.after = ap length x.was ∙ length_of x.before x.u x.between x.v x.after in
+      let two : length js ≡ length x.before + length x.v + length x.between + length x.u + length x.after = ap length x.becomes ∙ length_of x.before x.v x.between x.u x.after in
+      let u = x.size_u in
+      let v = x.size_v in
+      let whole = x.of_rank in
+      omega (arith, one, two, u, v, whole)
+
+  pub its_within : IsWithin r its_exchange
+  its_within =
+      let one : length is ≡ length x.before + length x.u + length x.between + length x.v + length x.after = ap length x.was ∙ length_of x.before x.u x.between x.v x.after in
+      let u = x.size_u in
+      let v = x.size_v in
+      let whole = x.of_rank in
+      let first = x.starts_i in
+      let second = starts_second in
+      record { apart = omega (arith, u, first, second); inside = omega (arith, one, u, v, whole, second) }
+
+  its_places : (p : ℕ) → nth js p ≡ nth is (partner its_exchange p)
+  its_places p =
+      ap (λ l. nth l p) (x.becomes ∙ assoc_5 x.before x.v x.between x.u x.after)
+      ∙ five x.before x.u x.between x.v x.after (b.start + x.i * b.size) (b.start + x.j * b.size) b.size b.negates x.starts_i x.size_u x.size_v starts_second p
+      ∙ ap (λ l. nth l (partner its_exchange p)) (sym (x.was ∙ assoc_5 x.before x.u x.between x.v x.after))
+
+  pub exchange_index : index_of r (exchanged r its_exchange (component_number is)) ≡ js
+  unfolding exchanged
+  exchange_index = index_of_digits r js (λ p. digit_of r (component_number is) (partner its_exchange p)) length_exchanged (λ p h.
+      ap axis_place (its_places p) ∙ sym (digit_list r is x.of_rank (partner its_exchange p) (partner_below r its_exchange its_within p h)))
+
+-- two blocks that lie apart can be exchanged
+pub record CanExchange (r : ℕ) (b : Bracket) (i j : ℕ) (is : Index) : Type 0 where
+  pub list : Index
+  pub is_exchange : IsExchange r b is list
+  pub is_i : is_exchange.i ≡ i
+  pub is_j : is_exchange.j ≡ j
+
+drop_split : (n : ℕ) (l : Index) → n ≤ length l → (l ≡ take n l ++ drop n l) × (length (take n l) ≡ n) × (length (drop n l) ≡ length l - n)
+drop_split n l h = (sym (take-append-drop n l), length-take-le n l h, length-drop n l)
+
+pub can_exchange : (r : ℕ) (b : Bracket) (i j : ℕ) (is : Index) → i < j → j < b.count → IsWithin r (exchange_of b i j) → length is ≡ r → CanExchange r b i j is
+can_exchange r b i j is ordered within h l =
+    let f = b.start + i * b.size in
+    let s = b.start + j * b.size in
+    let w = b.size in
+    let apart : f + w ≤ s = h.apart in
+    let inside : s + w ≤ r = h.inside in
+    let p1 = drop_split f is (omega (arith, apart, inside, l)) in
+    let r1 = drop f is in
+    let p2 = drop_split w r1 (omega (arith, apart, inside, l, p1.2)) in
+    let r2 = drop w r1 in
+    let p3 = drop_split (s - (f + w)) r2 (omega (arith, apart, inside, l, p1.2, p2.2)) in
+    let r3 = drop (s - (f + w)) r2 in
+    let p4 = drop_split w r3 (omega (arith, apart, inside, l, p1.2, p2.2, p3.2)) in
+    let a = take f is in
+    let u = take w r1 in
+    let k = take (s - (f + w)) r2 in
+    let v = take w r3 in
+    let z = drop w r3 in
+    let split : is ≡ a ++ (u ++ (k ++ (v ++ z))) = p1.0 ∙ ap (λ x. a ++ x) (p2.0 ∙ ap (λ x. u ++ x) (p3.0 ∙ ap (λ x. k ++ x) p4.0)) in
+    record {
+      list = a ++ v ++ k ++ u ++ z;
+      is_exchange = record {
+        i = i;
+        j = j;
+        ordered = ordered;
+        within = within;
+        before = a;
+        u = u;
+        between = k;
+        v = v;
+        after = z;
+        was = split ∙ sym (assoc_5 a u k v z);
+        becomes = refl;
+        starts_i = p1.1;
+        starts_j = length-append (a ++ u) k ∙ ap (λ n. n + length k) (length-append a u) ∙ omega (arith, apart, p1.1, p2.1, p3.1);
+        size_u = p2.1;
+        size_v = p4.1;
+        of_rank = l;
+      };
+      is_i = refl;
+      is_j = refl;
+    }
+
+-- ---- the list of the exchanges of brackets
+pub record IsListed (e : Exchange) (es : List Exchange) : Type 0 where
+  pub place : ℕ
+  pub within : place < length es
+  pub at : exchange_at es place ≡ e
+
+pub listed_left : {e : Exchange} {es : List Exchange} (fs : List Exchange) → IsListed e es → IsListed e (es ++ fs)
+listed_left {e} {es} fs h =
+    let long = length-append es fs in
+    let in_es = h.within in
+    record {
+      place = h.place;
+      within = omega (arith, long, in_es);
+      at = get_or_append_left es fs _ h.place h.within ∙ h.at;
+    }
+
+pub listed_right : {e : Exchange} (es : List Exchange) {fs : List Exchange} → IsListed e fs → IsListed e (es ++ fs)
+listed_right {e} es {fs} h =
+    let long = length-append es fs in
+    let in_fs = h.within in
+    record {
+      place = length es + h.place;
+      within = omega (arith, long, in_fs);
+      at = get_or-append-add es fs h.place _ ∙ h.at;
+    }
+
+listed_one : (e : Exchange) → IsListed e (e ∷ [])
+listed_one e = record { place = 0; within = omega arith; at = refl }
+
+earlier_listed : (b : Bracket) (j n i : ℕ) → i < n → IsListed (exchange_of b i j) (with_earlier b j n)
+earlier_listed b j zero i h = absurd (omega arith)
+earlier_listed b j (suc n) i h = elim (cases_lt i n) [
+  | inl l ↦ listed_left (exchange_of b n j ∷ []) (earlier_listed b j n i l)
+  | inr l ↦
+      let same : n ≡ i = omega arith in
+      listed_right (with_earlier b j n) (subst (λ m. IsListed (exchange_of b i j) (exchange_of b m j ∷ [])) (sym same) (listed_one (exchange_of b i j)))
+]
+
+pub two_listed : (b : Bracket) (n i j : ℕ) → i < j → j < n → IsListed (exchange_of b i j) (each_two b n)
+two_listed b zero i j h l = absurd (omega arith)
+two_listed b (suc n) i j h l = elim (cases_lt j n) [
+  | inl k ↦ listed_left (with_earlier b n n) (two_listed b n i j h k)
+  | inr k ↦
+      let same : n ≡ j = omega arith in
+      listed_right (each_two b n) (subst (λ m. IsListed (exchange_of b i j) (with_earlier b m m)) (sym same) (earlier_listed b j j i h))
+]
+
+-- what holds of each exchange of a list
+each_append : (P : Exchange → Type 0) (es fs : List Exchange) → Each P es → Each P fs → Each P (es ++ fs)
+each_append P [] fs p q = q
+each_append P (e ∷ es) fs p q = (p.0, each_append P es fs p.1 q)
+
+pub each_exchange : (P : Exchange → Type 0) (es : List Exchange) → Each P es → (k : ℕ) → k < length es → P (exchange_at es k)
+each_exchange P [] p k h = absurd (omega arith)
+each_exchange P (e ∷ es) p zero h = p.0
+each_exchange P (e ∷ es) p (suc k) h = each_exchange P es p.1 k (omega arith)
+
+each_earlier : (P : Exchange → Type 0) (b : Bracket) (j n : ℕ) → n ≤ j → ((i : ℕ) → i < j → P (exchange_of b i j)) → Each P (with_earlier b j n)
+each_earlier P b j zero l h = tt
+each_earlier P b j (suc n) l h = each_append P (with_earlier b j n) (exchange_of b n j ∷ []) (each_earlier P b j n (omega arith) h) (h n (omega arith), tt)
+
+each_of_two : (P : Exchange → Type 0) (b : Bracket) (n : ℕ) → n ≤ b.count → ((i j : ℕ) → i < j → j < b.count → P (exchange_of b i j)) → Each P (each_two b n)
+each_of_two P b zero l h = tt
+each_of_two P b (suc n) l h = each_append P (each_two b n) (with_earlier b n n) (each_of_two P b n (omega arith) h) (each_earlier P b n n (omega arith) (λ i m. h i n m (omega arith)))
+
+-- a tensor's components by number
+abbrev pub numbered : ℕ → Tensor → ℕ → Number
+numbered r t c = t (index_of r c)
+
+-- an exchange leaves the components the same, up to its sign
+pub record Keeps (r : ℕ) (t : Tensor) (e : Exchange) : Type 0 where
+  pub keeps : (c : ℕ) → c < 3 ^ r → numbered r t c ≡ signed (sign_of_exchange e) (numbered r t (exchanged r e c))
+
+signed_cond : (n : Bool) (x : Number) → signed (cond n Minus Plus) x ≡ cond n (neg x) x
+signed_cond true x = refl
+signed_cond false x = refl
+
+cond_back : (n : Bool) (x y : Number) → y ≡ cond n (neg x) x → x ≡ cond n (neg y) y
+cond_back true x y e = sym (num_neg-neg x) ∙ ap neg (sym e)
+cond_back false x y e = sym e
+
+respected_keeps : (r : ℕ) (t : Tensor) (b : Bracket) (i j : ℕ) → i < j → j < b.count → IsWithin r (exchange_of b i j) → Respects r t b → Keeps r t (exchange_of b i j)
+respected_keeps r t b i j ordered within inside h = record {
+  keeps = λ c below.
+      let is = index_of r c in
+      let can = can_exchange r b i j is ordered within inside (length-index_of r c) in
+      let told : t can.list ≡ cond b.negates (neg (t is)) (t is) = h is can.list can.is_exchange in
+      let number : component_number is ≡ c = number-index_of r c below in
+      let there : index_of r (exchanged r (exchange_of b i j) c) ≡ can.list = subst (λ d. index_of r (exchanged r (exchange_of b i j) d) ≡ can.list) number (subst (λ k. index_of r (exchanged r (exchange_of b i k) (component_number is)) ≡ can.list) can.is_j (subst (λ k. index_of r (exchanged r (exchange_of b k can.is_exchange.j) (component_number is)) ≡ can.list) can.is_i (exchange_index can.is_exchange))) in
+      cond_back b.negates (t is) (t can.list) told ∙ sym (signed_cond b.negates (t can.list)) ∙ ap (λ x. signed (sign_of_exchange (exchange_of b i j)) (t x)) (sym there);
+}
+
+kept_respects : (r : ℕ) (t : Tensor) (b : Bracket) → ((i j : ℕ) → i < j → j < b.count → Keeps r t (exchange_of b i j)) → Respects r t b
+kept_respects r t b h is js x =
+    let kept : numbered r t (component_number is) ≡ signed (sign_of_exchange (its_exchange x)) (numbered r t (exchanged r (its_exchange x) (component_number is))) = (h x.i x.j x.ordered x.within).keeps (component_number is) (component_below_at r is x.of_rank) in
+    let here : index_of r (component_number is) ≡ is = index_number_at r is x.of_rank in
+    let there : index_of r (exchanged r (its_exchange x) (component_number is)) ≡ js = exchange_index x in
+    let told : t is ≡ cond b.negates (neg (t js)) (t js) = ap t (sym here) ∙ kept ∙ signed_cond b.negates (numbered r t (exchanged r (its_exchange x) (component_number is))) ∙ ap (λ l. cond b.negates (neg (t l)) (t l)) there in
+    cond_back b.negates (t js) (t is) told
+
+-- index symmetry is to be kept by each exchange
+module _ (r : ℕ) (t : Tensor) where
+  symmetric_each : (bs : List Bracket) → ((e : Exchange) → IsListed e (exchanges_of bs) → IsWithin r e) → Each (λ b. Respects r t b) bs → Each (λ e. Keeps r t e) (exchanges_of bs)
+  symmetric_each [] inside h = tt
+  symmetric_each (b ∷ bs) inside h =
+      each_append (λ e. Keeps r t e) (each_two b b.count) (exchanges_of bs)
+      (each_of_two (λ e. Keeps r t e) b b.count (omega arith) (λ i j l m. respected_keeps r t b i j l m (inside (exchange_of b i j) (listed_left (exchanges_of bs) (two_listed b b.count i j l m))) h.0))
+      (symmetric_each bs (λ e l. inside e (listed_right (each_two b b.count) l)) h.1)
+
+  each_symmetric : (bs : List Bracket) → ((e : Exchange) → IsListed e (exchanges_of bs) → Keeps r t e) → Each (λ b. Respects r t b) bs
+  each_symmetric [] h = tt
+  each_symmetric (b ∷ bs) h = (
+    kept_respects r t b (λ i j l m. h (exchange_of b i j) (listed_left (exchanges_of bs) (two_listed b b.count i j l m))),
+    each_symmetric bs (λ e l. h e (listed_right (each_two b b.count) l)),
+  )
+
+  pub symmetric_kept : (bs : List Bracket) → AllWithin r (exchanges_of bs) → Each (λ b. Respects r t b) bs → IsKept (3 ^ r) (exchange_moves r (exchanges_of bs)) (numbered r t)
+  symmetric_kept bs inside h = record {
+    same = λ k c is below.
+        let each = symmetric_each bs (λ e l. subst (IsWithin r) l.at (inside.each l.place l.within)) h in
+        (each_exchange (λ e. Keeps r t e) (exchanges_of bs) each k is).keeps c below;
+  }
+
+  pub kept_symmetric : (bs : List Bracket) → IsKept (3 ^ r) (exchange_moves r (exchanges_of bs)) (numbered r t) → Each (λ b. Respects r t b) bs
+  kept_symmetric bs h = each_symmetric bs (λ e l. subst (Keeps r t) l.at (record { keeps = λ c below. h.same l.place c l.within below }))
+
+-- what an exchange of a list leads to is what the exchange of its number leads to
+pub exchange_lands : (r : ℕ) (b : Bracket) (i j c : ℕ) → c < 3 ^ r → (can : CanExchange r b i j (index_of r c)) → index_of r (exchanged r (exchange_of b i j) c) ≡ can.list
+exchange_lands r b i j c below can =
+    let is = index_of r c in
+    subst (λ d. index_of r (exchanged r (exchange_of b i j) d) ≡ can.list) (number-index_of r c below)
+    (subst (λ k. index_of r (exchanged r (exchange_of b i k) (component_number is)) ≡ can.list) can.is_j
+    (subst (λ k. index_of r (exchanged r (exchange_of b k can.is_exchange.j) (component_number is)) ≡ can.list) can.is_i (exchange_index can.is_exchange)))
+
+pub all_from : (bs : List Bracket) (P : Exchange → Type 0) → ((b : Bracket) → Contains bs b → (i j : ℕ) → i < j → j < b.count → P (exchange_of b i j)) → Each P (exchanges_of bs)
+all_from [] P h = tt
+all_from (b ∷ bs) P h =
+    each_append P (each_two b b.count) (exchanges_of bs)
+    (each_of_two P b b.count (omega arith) (λ i j l m. h b (0, omega arith, refl) i j l m))
+    (all_from bs P (λ x is i j l m. h x (suc is.0, (let small = is.1 in omega (arith, small)), is.2) i j l m))

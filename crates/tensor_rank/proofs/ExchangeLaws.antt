@@ -1,0 +1,64 @@
+-- An exchange of two blocks is its own inverse.
+use Rattle.std.proofs.Common.{◌≡◌, ℕ, ◌+◌, ◌*◌, ◌<◌, ◌≤◌, ◌^◌, add-one, List, zero, suc, arith, lit≤, ap, sym, subst, ◌∙◌, refl}
+use Rattle.std.proofs.lemmas.Bool.Decides.{nat_tests}
+use Rattle.tensor_rank.specs.declared.exchanges.Exchange.{Exchange}
+use Rattle.tensor_rank.specs.Digits.{digit_of, number_of}
+use Rattle.tensor_rank.specs.DigitLaws.{number_of-same, number_of-below, number_of-digits, digit_of-number}
+use Rattle.sign_moves.specs.Moves.{IsReversible, Reaches, stay, move}
+use Rattle.sign_moves.specs.Signs.{times}
+use Rattle.tensor_defs.specs.declared.Sign.TheVariants.{Plus}
+use Rattle.tensor_rank.specs.Within.{IsWithin, AllWithin, exchange_at}
+use Rattle.tensor_rank.specs.Exchanges.{partner, exchanged, exchange_moves, sign_of_exchange}
+
+pub partner_below : (r : ℕ) (e : Exchange) → IsWithin r e → (p : ℕ) → p < r → partner e p < r
+partner_below r e h p below = grind (arith, nat_tests, h.apart, h.inside)
+
+partner-partner : (r : ℕ) (e : Exchange) → IsWithin r e → (p : ℕ) → partner e (partner e p) ≡ p
+partner-partner r e h p = grind (arith, nat_tests, h.apart, h.inside)
+
+pub digit_below : (r c p : ℕ) → digit_of r c p < 3
+digit_below r c p = omega arith
+
+pub exchanged_below : (r : ℕ) (e : Exchange) → (c : ℕ) → exchanged r e c < 3 ^ r
+unfolding exchanged
+exchanged_below r e c = number_of-below r (λ p. digit_of r c (partner e p)) (λ p h. digit_below r c (partner e p))
+
+pub exchanged-exchanged : (r : ℕ) (e : Exchange) → IsWithin r e → (c : ℕ) → c < 3 ^ r → exchanged r e (exchanged r e c) ≡ c
+unfolding exchanged
+exchanged-exchanged r e h c below =
+    let digits = λ (p : ℕ). digit_of r c (partner e p) in
+    number_of-same r (λ p. digit_of r (number_of r digits) (partner e p)) (digit_of r c) (λ p l.
+    digit_of-number r digits (λ q _. digit_below r c (partner e q)) (partner e p) (partner_below r e h p l)
+    ∙ ap (digit_of r c) (partner-partner r e h p))
+    ∙ number_of-digits r c below
+
+pub exchanges_reversible : (n r : ℕ) (es : List Exchange) → n ≡ 3 ^ r → AllWithin r es → IsReversible n (exchange_moves r es)
+exchanges_reversible n r es size within = record {
+  stays = λ k c is below. rw size (exchanged_below r (exchange_at es k) c);
+  back = λ k c is below.
+      let P : ℕ → Type 0 = λ x. Reaches (exchange_moves r es) x c Plus in
+      let home : Reaches (exchange_moves r es) (exchanged r (exchange_at es k) (exchanged r (exchange_at es k) c)) c Plus = subst P (sym (exchanged-exchanged r (exchange_at es k) (within.each k is) c (rw size at below))) stay in
+      (times (sign_of_exchange (exchange_at es k)) Plus, move k is home refl);
+}
+
+power_small : (k : ℕ) → k ≤ 6 → 3 ^ k ≤ 729
+power_small zero h = lit≤ tt
+power_small (suc zero) h = lit≤ tt
+power_small (suc (suc zero)) h = lit≤ tt
+power_small (suc (suc (suc zero))) h = lit≤ tt
+power_small (suc (suc (suc (suc zero)))) h = lit≤ tt
+power_small (suc (suc (suc (suc (suc zero))))) h = lit≤ tt
+power_small (suc (suc (suc (suc (suc (suc zero)))))) h = lit≤ tt
+power_small (suc (suc (suc (suc (suc (suc (suc k))))))) h = absurd (omega arith)
+
+-- the digits at the first k places make a small number
+pub front_small : (r k c : ℕ) (e : Exchange) → k ≤ 6 → number_of k (λ p. digit_of r c (partner e p)) < 729
+front_small r k c e h =
+    let below : number_of k (λ p. digit_of r c (partner e p)) < 3 ^ k = number_of-below k (λ p. digit_of r c (partner e p)) (λ p l. digit_below r c (partner e p)) in
+    let small : 3 ^ k ≤ 729 = power_small k h in
+    omega arith
+
+-- one digit more
+pub front_more : (k : ℕ) (f : ℕ → ℕ) (n d : ℕ) → n ≡ number_of k f → d ≡ f k → 3 * n + d ≡ number_of (k + 1) f
+unfolding number_of
+front_more k f n d e h = rw (add-one, e, h) refl

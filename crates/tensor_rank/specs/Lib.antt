@@ -1,0 +1,14 @@
+pub mod Digits
+pub mod DigitLaws
+pub mod IndexLaws
+pub mod Flags
+pub mod Within
+pub mod Exchanges
+pub mod Orders
+pub mod Kinds
+pub mod StrictOrders
+pub mod Symmetry
+pub mod Carried
+pub mod ShapeValue
+pub mod Shapes
+pub mod AnyShapes

@@ -1,0 +1,53 @@
+-- Orders of components.
+--   Ordering        by the index digits, or by blocks of one or two indices
+--   before_of       the order of the definitions
+--   before_at       the same for components by their numbers
+--   IsBlock, AreBlocks    a block of one or two indices; blocks that are together a number of indices
+--   total           the sum of the sizes of blocks
+--   OrdersAreOrders    each of these orders is one
+--   front_number    the number of the first block of an index list
+--   pair_of         a pair number from two digits
+--   rest_before     block order where the first blocks agree
+use Rattle.std.specs.Prelude.{◌≡◌, ℕ, zero, suc, ◌+◌, ◌-◌, ◌≤◌, nat_eq, Bool, true, false, List, [], ◌∷◌, ◌++◌, cond, map}
+use Rattle.tensor_defs.specs.Lists.{Each, lexicographic}
+use Rattle.tensor_defs.specs.Orders.{index_before, block_before, block_numbers, pair_number, IsOrder}
+use Rattle.tensor_defs.specs.Tensor.{Index, digit, index_of}
+
+pub data Ordering : Type 0 where
+  ByIndex : Ordering
+  ByBlocks : List ℕ → Ordering
+
+abbrev pub before_of : Ordering → Index → Index → Bool
+before_of ByIndex is js = index_before is js
+before_of (ByBlocks bs) is js = block_before bs is js
+
+abbrev pub before_at : ℕ → Ordering → ℕ → ℕ → Bool
+before_at r o a b = before_of o (index_of r a) (index_of r b)
+
+abbrev pub is_by_index : Ordering → Bool
+is_by_index ByIndex = true
+is_by_index (ByBlocks bs) = false
+
+abbrev pub IsBlock : ℕ → Type 0
+IsBlock b = (1 ≤ b) × (b ≤ 2)
+
+abbrev pub total : List ℕ → ℕ
+total [] = 0
+total (b ∷ bs) = b + total bs
+
+abbrev pub AreBlocks : ℕ → List ℕ → Type 0
+AreBlocks r bs = Each IsBlock bs × (total bs ≡ r)
+
+abbrev pub OrdersAreOrders : Type 0
+OrdersAreOrders = (r : ℕ) (o : Ordering) → IsOrder r (before_of o)
+
+abbrev pub front_number : ℕ → Index → ℕ
+front_number (suc zero) (i ∷ is) = digit i
+front_number (suc (suc zero)) (i ∷ j ∷ is) = pair_number i j
+front_number w is = 0
+
+abbrev pub pair_of : ℕ → ℕ → ℕ
+pair_of d e = cond (nat_eq d e) d (9 - (d + e))
+
+abbrev pub rest_before : List ℕ → Index → Index → Index → Index → Bool
+rest_before bs is js a b = lexicographic (block_numbers bs is ++ map digit a) (block_numbers bs js ++ map digit b)

@@ -1,0 +1,27 @@
+//! Tensor ranks as types, the components of each rank and their orders, and the index symmetry of a Jahn symbol.
+#![tactic(auto)]
+
+mod brackets;
+mod components;
+mod exchanges;
+mod flags;
+mod laws;
+mod memory;
+mod orders;
+mod ranks;
+mod shapes;
+mod symbols;
+
+pub use components::Comp;
+pub use exchanges::{Exchange, ExchangeMoves};
+pub use flags::Flags;
+pub use laws::orders_are_orders;
+pub use memory::NoMemory;
+pub use orders::Order;
+pub use ranks::{R0, R1, R2, R3, R4, R5, R6, Rank};
+pub use shapes::Shape;
+pub use symbols::{AnyShape, compile};
+pub use tensor_defs::Sign;
+
+#[cfg(test)]
+mod tests;
