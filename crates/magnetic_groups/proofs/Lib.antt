@@ -5,3 +5,4 @@ pub mod Spans
 pub mod Cosets
 pub mod Members
 pub mod SymbolFrames
+pub mod Meeting

@@ -7,3 +7,4 @@ mod Cuts
 mod Progress
 mod Exits
 pub mod GroupOfTwo
+mod Screens

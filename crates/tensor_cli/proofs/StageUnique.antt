@@ -1,46 +1,59 @@
 -- A line has at most one refusal and one answer.
-use Rattle.std.proofs.Common.{◌≡◌, ◌⊎◌, inl, inr, ℕ, ◌<◌, ◌≤◌, List, [], ◌∷◌, length, refl, sym, ◌∙◌, ap, subst, arith}
+use Rattle.std.proofs.Common.{◌≡◌, inl, inr, ℕ, ◌≤◌, List, [], ◌∷◌, length, refl, sym, ◌∙◌, ap, subst, arith}
+use Rattle.std.specs.Prelude.{Option, Some, None}
+use Rattle.tensor_defs.specs.Group.{IsAccepted}
+use Rattle.tensor_defs.specs.Lists.{Each}
+use Rattle.text_defs.specs.Refusals.{RefusalWord, Refuses, RefusesRequest, FirstRefused, OverRank, InRank, jahn_of}
 use Rattle.text_defs.specs.Refusals.RefusalWord.{Long, Syntax, Primes, Rank, Shape, NotSub, TooLarge}
-use Rattle.text_defs.specs.Refusals.{Refuses}
+use Rattle.text_defs.specs.Requests.{GroupAt, JahnAt}
+use Rattle.text_laws.proofs.RequestUnique.{one_request_spelled}
 use Rattle.answer_laws.proofs.RefusalUnique.{one_refusal_lem}
 use Rattle.answer_laws.proofs.Lines.{one_answer_lem}
-use Rattle.tensor_cli.specs.Stage.{StageWord, IsBuilt, StageRefuses, IsStageRefused, stage_refusal_text}
+use Rattle.tensor_cli.specs.Stage.{StageWord, IsUnbuilt, StageRefuses, stage_refusal_text}
 use Rattle.tensor_cli.specs.Stage.StageWord.{Refused, Unbuilt}
 use Rattle.tensor_cli.specs.Laws.{OneStageRefusal, OneStageAnswer}
 
--- ---- refusals
--- the three refusals of this stage
-abbrev Is : List ℕ → StageWord → ℕ → Type 0
-Is line word column =
-    ((word ≡ Refused Long) × (column ≡ 1001) × (1000 < length line))
-    ⊎ ((word ≡ Refused Primes) × (length line ≤ 1000) × IsBuilt line × Refuses line Primes column)
-    ⊎ ((word ≡ Unbuilt) × (column ≡ 1) × (length line ≤ 1000) × (IsBuilt line → ⊥))
+-- a refusal of the language is one by the definition
+as_defined : (line : List ℕ) (w : RefusalWord) (c : ℕ) → StageRefuses line (Refused w) c → Refuses line w c
+as_defined line Long c r = r
+as_defined line Syntax c r = r
+as_defined line Primes c r = r
+as_defined line Rank c r = r
+as_defined line Shape c r = absurd r
+as_defined line (NotSub k) c r = absurd r
+as_defined line TooLarge c r = absurd r
 
-of_three : (line : List ℕ) (word : StageWord) (column : ℕ) → StageRefuses line word column → Is line word column
-of_three line (Refused Long) column r = inl (refl, r.1, r.0)
-of_three line (Refused Syntax) column r = absurd r
-of_three line (Refused Primes) column r = inr (inl (refl, r.1.0, inr r.0, r.1))
-of_three line (Refused Rank) column r = absurd r
-of_three line (Refused Shape) column r = absurd r
-of_three line (Refused (NotSub k)) column r = absurd r
-of_three line (Refused TooLarge) column r = absurd r
-of_three line Unbuilt column r = inr (inr (refl, r.2, r.0, r.1))
+none_refused : (gs : List GroupAt) (c : ℕ) → Each (λ g. IsAccepted g.symbol) gs → FirstRefused gs c → ⊥
+none_refused [] c e f = f
+none_refused (g ∷ gs) c e (inl f) = f.0 e.0
+none_refused (g ∷ gs) c e (inr f) = none_refused gs c e.1 f.1
 
-both : (line : List ℕ) (v w : StageWord) (c d : ℕ) → Is line v c → Is line w d → (v ≡ w) × (c ≡ d)
-both line v w c d (inl p) (inl q) = (p.0 ∙ sym q.0, p.1 ∙ sym q.1)
-both line v w c d (inl p) (inr (inl q)) = absurd (omega (arith, p.2, q.1))
-both line v w c d (inl p) (inr (inr q)) = absurd (omega (arith, p.2, q.2))
-both line v w c d (inr (inl p)) (inl q) = absurd (omega (arith, p.1, q.2))
-both line v w c d (inr (inl p)) (inr (inl q)) = (p.0 ∙ sym q.0, (one_refusal_lem line Primes Primes c d p.3 q.3).1)
-both line v w c d (inr (inl p)) (inr (inr q)) = absurd (q.3 p.2)
-both line v w c d (inr (inr p)) (inl q) = absurd (omega (arith, p.2, q.2))
-both line v w c d (inr (inr p)) (inr (inl q)) = absurd (p.3 q.2)
-both line v w c d (inr (inr p)) (inr (inr q)) = (p.0 ∙ sym q.0, p.1 ∙ sym q.1)
+none_over : (o : Option JahnAt) (c : ℕ) → InRank o → OverRank o c → ⊥
+none_over None c i o = o
+none_over (Some j) c i o = omega (arith, i, o.0)
+
+-- a request that isn't built has no other refusal
+only_unbuilt : (line : List ℕ) (w : RefusalWord) (c : ℕ) → length line ≤ 1000 → IsUnbuilt line →
+    StageRefuses line (Refused w) c → ⊥
+only_unbuilt line Long c short u r = omega (arith, r.0)
+only_unbuilt line Syntax c short u r = r.2.none (u.request, u.spelled)
+only_unbuilt line Primes c short u r =
+    none_refused _ c u.accepted
+    (subst (λ q. RefusesRequest q Primes c) (one_request_spelled line r.1 u.request r.2 u.spelled) r.3)
+only_unbuilt line Rank c short u r =
+    none_over (jahn_of u.request) c u.in_rank
+    ((subst (λ q. RefusesRequest q Rank c) (one_request_spelled line r.1 u.request r.2 u.spelled) r.3).1)
+only_unbuilt line Shape c short u r = r
+only_unbuilt line (NotSub k) c short u r = r
+only_unbuilt line TooLarge c short u r = r
 
 pub one_refusal : OneStageRefusal
-one_refusal line v w c d p q = both line v w c d (of_three line v c p) (of_three line w d q)
+one_refusal line (Refused v) (Refused w) c d p q =
+    let same = one_refusal_lem line v w c d (as_defined line v c p) (as_defined line w d q) in (ap Refused same.0, same.1)
+one_refusal line (Refused v) Unbuilt c d p q = absurd (only_unbuilt line v c q.0 q.1 p)
+one_refusal line Unbuilt (Refused w) c d p q = absurd (only_unbuilt line w d p.0 p.1 q)
+one_refusal line Unbuilt Unbuilt c d p q = (refl, p.2 ∙ sym q.2)
 
--- ---- answers
 pub one_answer : OneStageAnswer
 one_answer number [] a c p q = p ∙ sym q
 one_answer number (b ∷ bs) a c (inl p) (inl q) =

@@ -6,5 +6,5 @@ pub mod Reads
 pub mod Outcomes
 pub mod Stops
 pub mod Runs
-pub mod Asked
-pub mod Elements
+pub mod Screening
+pub mod Ends

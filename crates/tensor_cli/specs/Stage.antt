@@ -1,8 +1,9 @@
--- What this stage of the program answers: the line form 2 V and the elements of groups, and no other request yet.
---   StageWord       a word of a refusal: one of the seven, or unbuilt for a line that is not answered yet
+-- What this stage of the program answers: the line form 2 V and the elements of groups, and no other request yet. Every
+-- line is read, and refused where it is no request, where a group isn't accepted, or where a rank is above 6.
+--   StageWord       a word of a refusal: one of the seven, or unbuilt for a request that is not answered yet
 --   stage_refusal_text    the text of a refusal
---   AsksElements    the line asks for the elements of a group
---   IsBuilt         the line is one that this stage answers
+--   IsBuilt         the request is one that this stage answers
+--   IsUnbuilt       the line spells a request with accepted groups and a rank up to 6 that isn't built
 --   StageRefuses    the first refusal that applies to a line, and its column
 --   IsStageRefused  some refusal applies
 --   StageAnswer     the bytes are the answer of a line of a number: nothing for an empty line, the text of its refusal,
@@ -12,10 +13,10 @@
 use Rattle.std.specs.Prelude.{◌≡◌, ◌⊎◌, ℕ, ◌≤◌, List, [], ◌∷◌, length, codes}
 use Rattle.std.specs.Fmt.{decimal}
 use Rattle.text_defs.specs.AnswerTexts.{line_of}
-use Rattle.text_defs.specs.Refusals.{RefusalWord, Refuses, refusal_text}
-use Rattle.text_defs.specs.Refusals.RefusalWord.{Long, Primes}
-use Rattle.text_defs.specs.Requests.{GroupAt, SpellsRequest}
-use Rattle.text_defs.specs.Requests.Request.{Group}
+use Rattle.text_defs.specs.Refusals.{RefusalWord, Refuses, refusal_text, AreAccepted, InRank, jahn_of}
+use Rattle.text_defs.specs.Refusals.RefusalWord.{Long, Syntax, Primes, Rank}
+use Rattle.text_defs.specs.Requests.{Request, SpellsRequest}
+use Rattle.text_defs.specs.Requests.Request.{Form, Group}
 use Rattle.text_defs.specs.Answers.{IsAnswer}
 
 pub data StageWord : Type 0 where
@@ -27,18 +28,25 @@ stage_refusal_text number column (Refused word) = refusal_text number column wor
 stage_refusal_text number column Unbuilt =
     line_of (codes "error" ∷ decimal number ∷ decimal column ∷ codes "unbuilt" ∷ [])
 
--- the line asks for the elements of a group
-abbrev pub AsksElements : List ℕ → Type 0
-AsksElements line = (g : GroupAt) × SpellsRequest line (Group g)
+abbrev pub IsBuilt : List ℕ → Request → Type 0
+IsBuilt line (Group g) = Unit {0}
+IsBuilt line (Form g j) = line ≡ codes "form 2 V"
+IsBuilt line request = ⊥
 
-abbrev pub IsBuilt : List ℕ → Type 0
-IsBuilt line = (line ≡ codes "form 2 V") ⊎ AsksElements line
+pub record IsUnbuilt (line : List ℕ) : Type 0 where
+  pub request : Request
+  pub spelled : SpellsRequest line request
+  pub accepted : AreAccepted request
+  pub in_rank : InRank (jahn_of request)
+  pub other : IsBuilt line request → ⊥
 
 abbrev pub StageRefuses : List ℕ → StageWord → ℕ → Type 0
 StageRefuses line (Refused Long) column = Refuses line Long column
-StageRefuses line (Refused Primes) column = AsksElements line × Refuses line Primes column
+StageRefuses line (Refused Syntax) column = Refuses line Syntax column
+StageRefuses line (Refused Primes) column = Refuses line Primes column
+StageRefuses line (Refused Rank) column = Refuses line Rank column
 StageRefuses line (Refused word) column = ⊥
-StageRefuses line Unbuilt column = (length line ≤ 1000) × (IsBuilt line → ⊥) × (column ≡ 1)
+StageRefuses line Unbuilt column = (length line ≤ 1000) × IsUnbuilt line × (column ≡ 1)
 
 abbrev pub IsStageRefused : List ℕ → Type 0
 IsStageRefused [] = ⊥
@@ -54,4 +62,4 @@ StageAnswer number (b ∷ bs) bytes =
 abbrev pub IsQuick : List ℕ → Type 0
 IsQuick [] = Unit {0}
 IsQuick (b ∷ bs) =
-    (column : ℕ) × (StageRefuses (b ∷ bs) (Refused Long) column ⊎ StageRefuses (b ∷ bs) Unbuilt column)
+    (column : ℕ) × (StageRefuses (b ∷ bs) (Refused Long) column ⊎ StageRefuses (b ∷ bs) (Refused Syntax) column)

@@ -6,14 +6,19 @@ use Rattle.std.specs.Prelude.{ℕ, List, codes}
 use Rattle.text_defs.specs.Refusals.{RefusalWord}
 use Rattle.tensor_cli.specs.Stage.{StageWord}
 use Rattle.tensor_cli.specs.declared.refusals.Word.{Word}
-use Rattle.tensor_cli.specs.declared.refusals.Word.TheVariants.{Long, Primes, Unbuilt}
+use Rattle.tensor_cli.specs.declared.refusals.Word.TheVariants.{Long, Syntax, Primes, Rank}
+use Rattle.tensor_cli.specs.declared.refusals.Word.TheVariants.{Unbuilt}
 
 abbrev pub word_of : Word → StageWord
 word_of Long = StageWord.Refused RefusalWord.Long
+word_of Syntax = StageWord.Refused RefusalWord.Syntax
 word_of Primes = StageWord.Refused RefusalWord.Primes
+word_of Rank = StageWord.Refused RefusalWord.Rank
 word_of Unbuilt = StageWord.Unbuilt
 
 abbrev pub spelling : Word → List ℕ
 spelling Long = codes "long"
+spelling Syntax = codes "syntax"
 spelling Primes = codes "primes"
+spelling Rank = codes "rank"
 spelling Unbuilt = codes "unbuilt"

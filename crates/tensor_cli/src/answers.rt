@@ -1,18 +1,23 @@
 //! The answer of a line.
-ghost use Rattle.std.specs.Prelude.{◌≡◌, ◌↔◌, ◌+◌, ◌<◌, ◌≤◌, ◌++◌, [], List, ℕ, length, IfOk, OnOk, OnErr, IsOk, IsTrue, vec_len, vec_capacity};
+ghost use Rattle.std.specs.Prelude.{◌≡◌, ◌↔◌, ◌+◌, ◌<◌, ◌≤◌, ◌++◌, [], List, ℕ, codes, length, IfOk, OnOk, OnErr, IsOk, IsTrue, MatchBool, vec_len, vec_capacity};
+ghost use Rattle.text_defs.specs.Requests as defs;
+ghost use Rattle.text_defs.specs.Requests.{GroupAt, SpellsRequest};
+ghost use Rattle.text_defs.specs.Requests.Request.{Group};
+ghost use Rattle.request_lines.specs.Readings.{Tells, TellsGroup};
+ghost use Rattle.tensor_cli.specs.Ends.{Ends};
 ghost use Rattle.tensor_cli.specs.Reads.{Stands};
+ghost use Rattle.tensor_cli.specs.Screening.{AsksOther};
 ghost use Rattle.tensor_cli.specs.Stage.{StageAnswer, IsStageRefused, IsQuick, stage_refusal_text};
 ghost use Rattle.tensor_cli.specs.Words.{word_of};
-ghost use Rattle.tensor_cli.specs.Elements.{ElementsEnd};
 
-use crate::asked::{Asked, asked_of};
 use crate::elements::append_elements;
 use crate::forms::write_vector_form;
 use crate::memory::{NoMemory, append};
-use crate::refusals::Refusal;
+use crate::refusals::{LONGEST, Refusal, Word};
+use crate::screening::{Parts, parts_of, screen};
 use crate::vectors::free_components;
-use group_symbol::SymbolTree;
 use magnetic_groups::{GroupFault, build_group};
+use request_lines::{Named, Request, read_request};
 use std::alloc::Global;
 
 /// How the answer of a line ended.
@@ -44,28 +49,94 @@ pub fn refuse_long(number: u64, out: &mut Vec<u8>) -> Result<(), NoMemory>
     refuse(number, Refusal::LONG, out)
 }
 
-/// Appends the answer to a request for the elements of the group of a symbol, or its refusal. After `NoMemory` the list is
+/// Appends the answer to a request for the elements of a group, or the refusal of its symbol. After `NoMemory` the list is
 /// as before.
 fn answer_elements(
     alloc: Global,
     number: u64,
-    tree: &SymbolTree,
+    line: &[u8],
+    named: &Named,
     out: &mut Vec<u8>,
 ) -> Result<LineEnd, NoMemory>
-    ensures ok { IfOk result (λ end. ElementsEnd number tree.now out.old.items out.new.items end) }
+    requires some { 0 < length line.now }
+    requires short { length line.now ≤ 1000 }
+    requires near { named.now.start ≤ 1000 }
+    requires asked { (g : GroupAt) × SpellsRequest line.now (Group g) × TellsGroup named.now g }
+    ensures ok { IfOk result (λ end. Ends number line.now out.old.items out.new.items end) }
     ensures err { OnErr result (out.new.items ≡ out.old.items) }
     ensures capacity { vec_capacity out.old ≤ vec_capacity out.new }
 {
-    match build_group(alloc, tree) {
+    match build_group(alloc, &named.tree) {
         Ok(group) => {
-            append_elements(alloc, tree, &group, out)?;
+            append_elements(alloc, &named.tree, &group, out)?;
             Ok(LineEnd::Answered)
         }
         Err(GroupFault::Primes) => {
-            refuse(number, Refusal::PRIMES, out)?;
+            refuse(number, Refusal::at(Word::Primes, named.start), out)?;
             Ok(LineEnd::Refused)
         }
         Err(GroupFault::NoMemory) => Err(NoMemory),
+    }
+}
+
+/// Whether the line is `form 2 V`.
+fn is_vector(line: &[u8]) -> bool
+    ensures { MatchBool result (line.now ≡ codes "form 2 V") (line.now ≡ codes "form 2 V" → ⊥) }
+{
+    line == b"form 2 V".as_slice()
+}
+
+/// Appends the answer to another request, or its refusal. After `NoMemory` the list is as before.
+fn answer_other(
+    alloc: Global,
+    number: u64,
+    line: &[u8],
+    parts: &Parts,
+    out: &mut Vec<u8>,
+) -> Result<LineEnd, NoMemory>
+    requires some { 0 < length line.now }
+    requires short { length line.now ≤ 1000 }
+    requires asked { AsksOther line.now parts.now }
+    ensures ok { IfOk result (λ end. Ends number line.now out.old.items out.new.items end) }
+    ensures err { OnErr result (out.new.items ≡ out.old.items) }
+    ensures capacity { vec_capacity out.old ≤ vec_capacity out.new }
+{
+    match screen(alloc, line, parts)? {
+        Some(refusal) => {
+            refuse(number, refusal, out)?;
+            Ok(LineEnd::Refused)
+        }
+        None => {
+            if is_vector(line) {
+                let free = free_components(alloc)?;
+                write_vector_form(free, out)?;
+                Ok(LineEnd::Answered)
+            } else {
+                refuse(number, Refusal::UNBUILT, out)?;
+                Ok(LineEnd::Refused)
+            }
+        }
+    }
+}
+
+/// Appends the answer to a request that was read from the line, or its refusal. After `NoMemory` the list is as before.
+fn answer_request(
+    alloc: Global,
+    number: u64,
+    line: &[u8],
+    request: &Request,
+    out: &mut Vec<u8>,
+) -> Result<LineEnd, NoMemory>
+    requires some { 0 < length line.now }
+    requires short { length line.now ≤ 1000 }
+    requires read { (q : defs.Request) × SpellsRequest line.now q × Tells line.now request.now q }
+    ensures ok { IfOk result (λ end. Ends number line.now out.old.items out.new.items end) }
+    ensures err { OnErr result (out.new.items ≡ out.old.items) }
+    ensures capacity { vec_capacity out.old ≤ vec_capacity out.new }
+{
+    match request {
+        Request::Group { g } => answer_elements(alloc, number, line, g, out),
+        _ => answer_other(alloc, number, line, &parts_of(request), out),
     }
 }
 
@@ -83,24 +154,23 @@ pub fn answer_line(
     ensures empty { IfOk result (λ end. (end ≡ LineEnd.Empty) ↔ (line.now ≡ [])) }
     ensures err { OnErr result (out.new.items ≡ out.old.items) }
 
-    // With room for a refusal, an empty or refused line takes no memory.
+    // With room for a refusal, a line that is empty, long or no request takes no memory.
     ensures room { vec_len out.old + 64 ≤ vec_capacity out.old → IsQuick line.now → IsOk result }
     ensures capacity { vec_capacity out.old ≤ vec_capacity out.new }
 {
     if line.is_empty() {
         return Ok(LineEnd::Empty);
     }
-    match asked_of(line) {
-        Asked::Refused(refusal) => {
-            refuse(number, refusal, out)?;
+    if line.len() > LONGEST {
+        refuse(number, Refusal::LONG, out)?;
+        return Ok(LineEnd::Refused);
+    }
+    match read_request(line) {
+        Err(fault) => {
+            refuse(number, Refusal::at(Word::Syntax, fault.place), out)?;
             Ok(LineEnd::Refused)
         }
-        Asked::Vector => {
-            let free = free_components(alloc)?;
-            write_vector_form(free, out)?;
-            Ok(LineEnd::Answered)
-        }
-        Asked::Elements(tree) => answer_elements(alloc, number, &tree, out),
+        Ok(request) => answer_request(alloc, number, line, &request, out),
     }
 }
 

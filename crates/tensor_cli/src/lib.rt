@@ -2,7 +2,6 @@
 #![tactic(auto)]
 
 mod answers;
-mod asked;
 mod buffer;
 mod elements;
 mod forms;
@@ -10,6 +9,7 @@ mod laws;
 mod memory;
 mod outcome;
 mod refusals;
+mod screening;
 mod text;
 mod top;
 mod vectors;
@@ -18,6 +18,7 @@ pub use answers::{LineEnd, answer_line, refuse_long};
 pub use laws::{one_stage_answer, one_stage_refusal};
 pub use memory::NoMemory;
 pub use outcome::Outcome;
+pub use request_lines::{Fault, Named, Request, Span, Weights, read_request};
 pub use top::{run, run_within};
 
 #[cfg(test)]

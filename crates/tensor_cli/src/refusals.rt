@@ -1,5 +1,5 @@
 //! Refusals of a line.
-ghost use Rattle.std.specs.Prelude.{◌≡◌, ◌<◌, ◌≤◌, [], length, codes, MatchOption, MatchBool};
+ghost use Rattle.std.specs.Prelude.{◌≡◌, ◌+◌, ◌<◌, ◌≤◌, [], length, codes, MatchOption, MatchBool};
 ghost use Rattle.tensor_cli.specs.Stage.{IsBuilt, IsStageRefused, StageRefuses, stage_refusal_text};
 ghost use Rattle.tensor_cli.specs.Words.{spelling, word_of};
 
@@ -13,7 +13,9 @@ pub const LONGEST: usize = 1000;
 #[derive(Clone, Copy, Debug, PartialEq, Eq, Drop)]
 pub enum Word {
     Long,
+    Syntax,
     Primes,
+    Rank,
     Unbuilt,
 }
 
@@ -24,7 +26,9 @@ impl Word {
     {
         match self {
             Word::Long => "long",
+            Word::Syntax => "syntax",
             Word::Primes => "primes",
+            Word::Rank => "rank",
             Word::Unbuilt => "unbuilt",
         }
     }
@@ -44,17 +48,22 @@ impl Refusal {
         column: LONGEST as u64 + 1,
     };
 
-    /// The refusal of a request for the elements of a group whose symbol isn't accepted.
-    pub const PRIMES: Refusal = Refusal {
-        word: Word::Primes,
-        column: 7,
-    };
-
     /// The refusal of a line that is not answered yet.
     pub const UNBUILT: Refusal = Refusal {
         word: Word::Unbuilt,
         column: 1,
     };
+
+    /// The refusal at a place of the line, counted from 0.
+    pub fn at(word: Word, place: usize) -> Refusal
+        requires { place ≤ 1000 }
+        ensures { result ≡ record { word = word; column = place + 1 } }
+    {
+        Refusal {
+            word,
+            column: place as u64 + 1,
+        }
+    }
 
     /// The text of the refusal of a line with this number, in a fixed array.
     pub fn text(self, number: u64) -> ShortText

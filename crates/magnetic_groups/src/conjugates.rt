@@ -1,0 +1,30 @@
+//! The elements that stay in the group when an operation carries them.
+ghost use Rattle.std.specs.Prelude.{IfOk};
+ghost use Rattle.tensor_defs.specs.Lists.{IsListing};
+ghost use Rattle.tensor_defs.specs.OperationOrder.{comes_before};
+ghost use Rattle.tensor_defs.specs.States.{InPairGroup};
+ghost use Rattle.magnetic_groups.specs.Sets.{FitsFrame, In};
+
+use crate::{Group, NoMemory};
+use op_matrix::Op;
+use std::alloc::Global;
+
+impl Group {
+    /// The group of those elements h for which op⁻¹·h·op is an element. Source: International Tables D 3.4.
+    pub fn meet_conjugate(&self, alloc: Global, op: &Op) -> Result<Group, NoMemory>
+        requires { FitsFrame self.now op.now }
+        ensures { IfOk result (λ g. IsListing comes_before (InPairGroup (In self.now) op.now) g) }
+    {
+        let inverse = op.inverse();
+        let mut met = Group::trivial(alloc)?;
+        for place in 0..self.len() {
+            let element = self.at(place);
+            let half = inverse.product(&element);
+            let carried = half.product(op);
+            if self.has(&carried) {
+                met = met.joined(alloc, &element)?;
+            }
+        }
+        Ok(met)
+    }
+}
