@@ -1,0 +1,3 @@
+pub mod PlainOps
+pub mod Reading
+pub mod Classes

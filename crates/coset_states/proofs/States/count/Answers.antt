@@ -1,0 +1,8 @@
+use Rattle.coset_states.proofs.Reading.{seen_states, seen_within}
+use Rattle.coset_states.proofs.States.count.Goals as goal
+
+pub returns-clause-states : goal.returns-clause-states
+returns-clause-states c = seen_states c.self.inside.whole c.self.inside.sub c.self.inside.representatives.items c.self.inside.numbers c.args.self.now c.self.invariant c.self.view_is
+
+pub returns-clause-within : goal.returns-clause-within
+returns-clause-within c = seen_within c.self.inside.whole c.self.inside.sub c.self.inside.representatives.items c.self.inside.numbers c.args.self.now c.self.invariant c.self.view_is

@@ -1,0 +1,23 @@
+-- The looking up of names.
+--   HoldsAll        each of the operations is an element
+--   IsFirstNamed    the first accepted symbol of a list with the elements of a group, or that there is none
+--   pattern         the symbol of a parent, a setting and a pattern of primes, given by its look-up number
+use Rattle.std.specs.Prelude.{◌≡◌, ℕ, false, List, [], ◌∷◌, ◌++◌, Option, Some, None, Contains}
+use Rattle.tensor_defs.specs.declared.Setting.{Setting}
+use Rattle.tensor_defs.specs.Lists.{Each}
+use Rattle.tensor_defs.specs.Operation.{Operation}
+use Rattle.tensor_defs.specs.Symbols.{GroupSymbol, operator_count}
+use Rattle.tensor_defs.specs.Names.{IsNamed, turned_bits}
+
+abbrev pub HoldsAll : List Operation → List Operation → Type 0
+HoldsAll xs gs = (g : Operation) → Contains gs g → Contains xs g
+
+abbrev pub IsFirstNamed : (Operation → Type 0) → List GroupSymbol → Option GroupSymbol → Type 0
+IsFirstNamed H ts (Some t) =
+    (earlier : List GroupSymbol) × (later : List GroupSymbol) × (ts ≡ earlier ++ t ∷ later)
+    × IsNamed t H × Each (λ u. ¬ IsNamed u H) earlier
+IsFirstNamed H ts None = Each (λ u. ¬ IsNamed u H) ts
+
+abbrev pub pattern : ℕ → Setting → ℕ → List GroupSymbol
+pattern n s p =
+    record { parent = n; primes = turned_bits (operator_count n) p; grey = false; setting = s } ∷ []

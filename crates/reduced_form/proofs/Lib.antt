@@ -1,0 +1,3 @@
+pub mod FreeLaws
+pub mod FormLaws
+pub mod TextLaws

@@ -1,0 +1,285 @@
+-- The lines of all components, by their numbers.
+use Rattle.std.proofs.Common.{◌≡◌, ℕ, zero, suc, ◌+◌, ◌*◌, ◌/◌, ◌%◌, ◌^◌, ◌<◌, ◌≤◌, Bool, true, false, cond, nat_eq, List, [], ◌∷◌, ◌++◌, map, length, get_or, refl, ap, sym, ◌∙◌, arith, subst, length-append}
+use Rattle.std.specs.List.{flat_map}
+use Rattle.std.specs.Prelude.{if◌then◌else◌, codes, take}
+use Rattle.std.proofs.Math.Nat.{pow-suc}
+use Rattle.std.proofs.lemmas.Grind.{flat_map-append}
+use Rattle.std.proofs.lemmas.List.{append_assoc, length-map}
+use Rattle.std.proofs.lemmas.Nat.{div-mul-add, mod-mul-add}
+use Rattle.tensor_defs.specs.Lists.{Each}
+use Rattle.tensor_defs.specs.Operation.{Axis, x1, x2, x3}
+use Rattle.tensor_defs.specs.Tensor.{Index, axis_at, component_number, digit, index_of, indices, same_index}
+use Rattle.tensor_laws.proofs.ComponentNumbers.{number-index_of}
+use Rattle.text_defs.specs.AnswerTexts.{component_line, component_name, digits_text, free_names, has_index, named, rational, row_text}
+use Rattle.text_defs.specs.NumberTexts.{NamedTerm, joined, later_terms, sum_text, term_text}
+use Rattle.reduced_form.specs.declared.forms.Term.{Term}
+use Rattle.reduced_form.specs.Forms.{FormValue, form_table, free_at, row_at, term_of}
+use Rattle.reduced_form.specs.Texts.{IsLonger, lines_upto, named_terms, placed, sum_from}
+
+append_none : {X : Type 0} (xs : List X) → xs ++ [] ≡ xs
+append_none [] = refl
+append_none (x ∷ xs) = ap (λ ys. x ∷ ys) (append_none xs)
+
+-- ---- lines of components by their numbers
+pub lines_add : (f : ℕ → List ℕ) (m n : ℕ) → lines_upto f (m + n) ≡ lines_upto f m ++ lines_upto (λ c. f (m + c)) n
+unfolding lines_upto
+lines_add f m zero =
+    let same : m + zero ≡ m = omega arith in
+    ap (lines_upto f) same ∙ sym (append_none (lines_upto f m))
+lines_add f m (suc n) =
+    let next : m + suc n ≡ suc (m + n) = omega arith in
+    ap (lines_upto f) next ∙ ap (λ x. x ++ f (m + n)) (lines_add f m n)
+    ∙ append_assoc (lines_upto f m) (lines_upto (λ c. f (m + c)) n) (f (m + n))
+
+pub lines_same : (f g : ℕ → List ℕ) (n : ℕ) → ((c : ℕ) → c < n → f c ≡ g c) → lines_upto f n ≡ lines_upto g n
+unfolding lines_upto
+lines_same f g zero h = refl
+lines_same f g (suc n) h = λ i. lines_same f g n (λ c l. h c (omega arith)) i ++ h n (omega arith) i
+
+flat_mapped : (f : Index → List ℕ) (i : Axis) (xs : List Index) → flat_map f (map (λ js. i ∷ js) xs) ≡ flat_map (λ js. f (i ∷ js)) xs
+flat_mapped f i [] = refl
+flat_mapped f i (x ∷ xs) = ap (λ y. f (i ∷ x) ++ y) (flat_mapped f i xs)
+
+index_at : (r a n c : ℕ) → c < 3 ^ r → n ≡ a * 3 ^ r + c → index_of (suc r) n ≡ axis_at a ∷ index_of r c
+index_at r a n c h e =
+    let q : n / 3 ^ r ≡ a = ap (λ x. x / 3 ^ r) e ∙ div-mul-add a (3 ^ r) c h in
+    let m : n % 3 ^ r ≡ c = ap (λ x. x % 3 ^ r) e ∙ mod-mul-add a (3 ^ r) c h in
+    λ i. axis_at (q i) ∷ index_of r (m i)
+
+third : (r : ℕ) (f : Index → List ℕ) (a : ℕ) (at : ℕ → ℕ) → ((c : ℕ) → at c ≡ a * 3 ^ r + c) →
+    lines_upto (λ c. f (index_of (suc r) (at c))) (3 ^ r) ≡ lines_upto (λ c. f (axis_at a ∷ index_of r c)) (3 ^ r)
+third r f a at e = lines_same _ _ (3 ^ r) (λ c h. ap f (index_at r a (at c) c h (e c)))
+
+lines_one : (f : ℕ → List ℕ) → lines_upto f 1 ≡ f 0
+unfolding lines_upto
+lines_one f = refl
+
+pub all_lines : (r : ℕ) (f : Index → List ℕ) → lines_upto (λ c. f (index_of r c)) (3 ^ r) ≡ flat_map f (indices r)
+all_lines zero f = lines_one (λ c. f (index_of 0 c)) ∙ sym (append_none (f []))
+all_lines (suc r) f =
+    let N = 3 ^ r in
+    let g : ℕ → List ℕ = λ c. f (index_of (suc r) c) in
+    let size : 3 ^ suc r ≡ N + (N + N) = omega (arith, pow-suc 3 r) in
+    let one : lines_upto g N ≡ flat_map (λ js. f (x1 ∷ js)) (indices r) = third r f 0 (λ c. c) (λ c. omega arith) ∙ all_lines r (λ js. f (x1 ∷ js)) in
+    let two : lines_upto (λ c. g (N + c)) N ≡ flat_map (λ js. f (x2 ∷ js)) (indices r) = third r f 1 (λ c. N + c) (λ c. omega arith) ∙ all_lines r (λ js. f (x2 ∷ js)) in
+    let three : lines_upto (λ c. g (N + (N + c))) N ≡ flat_map (λ js. f (x3 ∷ js)) (indices r) = third r f 2 (λ c. N + (N + c)) (λ c. omega arith) ∙ all_lines r (λ js. f (x3 ∷ js)) in
+    let a = map (λ js. x1 ∷ js) (indices r) in
+    let b = map (λ js. x2 ∷ js) (indices r) in
+    let c = map (λ js. x3 ∷ js) (indices r) in
+    ap (lines_upto g) size ∙ lines_add g N (N + N)
+    ∙ ap (λ x. lines_upto g N ++ x) (lines_add (λ c. g (N + c)) N N)
+    ∙ (λ i. one i ++ (two i ++ three i))
+    ∙ sym (flat_map-append f (a ++ b) c ∙ ap (λ x. x ++ flat_map f c) (flat_map-append f a b)
+    ∙ append_assoc (flat_map f a) (flat_map f b) (flat_map f c)
+    ∙ (λ i. flat_mapped f x1 (indices r) i ++ (flat_mapped f x2 (indices r) i ++ flat_mapped f x3 (indices r) i)))
+
+-- ---- whether a component is among the free ones
+both : (a b : Bool) → cond a b false ≡ true → (a ≡ true) × (b ≡ true)
+both true b e = (refl, e)
+both false b e = cc
+
+digits_tell : (i j : Axis) → nat_eq (digit i) (digit j) ≡ true → i ≡ j
+digits_tell x1 x1 e = refl
+digits_tell x1 x2 e = cc
+digits_tell x1 x3 e = cc
+digits_tell x2 x1 e = cc
+digits_tell x2 x2 e = refl
+digits_tell x2 x3 e = cc
+digits_tell x3 x1 e = cc
+digits_tell x3 x2 e = cc
+digits_tell x3 x3 e = refl
+
+same_own : (is : Index) → same_index is is ≡ true
+same_own [] = refl
+same_own (x1 ∷ is) = same_own is
+same_own (x2 ∷ is) = same_own is
+same_own (x3 ∷ is) = same_own is
+
+same_told : (is js : Index) → same_index is js ≡ true → is ≡ js
+same_told [] [] e = refl
+same_told [] (j ∷ js) e = cc
+same_told (i ∷ is) [] e = cc
+same_told (i ∷ is) (j ∷ js) e =
+    let p = both (nat_eq (digit i) (digit j)) (same_index is js) e in
+    λ n. digits_tell i j p.0 n ∷ same_told is js p.1 n
+
+-- a test, or what is found later
+either : Bool → Bool → Bool
+either b y = if b then true else y
+
+either_here : (b y : Bool) → b ≡ true → either b y ≡ true
+unfolding either
+either_here true y e = refl
+either_here false y e = cc
+
+either_later : (b y : Bool) → y ≡ true → either b y ≡ true
+unfolding either
+either_later true y e = refl
+either_later false y e = e
+
+either_none : (b y : Bool) → b ≡ false → y ≡ false → either b y ≡ false
+unfolding either
+either_none true y e f = cc
+either_none false y e f = f
+
+not_true : (b : Bool) → (b ≡ true → ⊥) → b ≡ false
+not_true true h = absurd (h refl)
+not_true false h = refl
+
+pub has_found : (r c : ℕ) (free : List ℕ) (k : ℕ) → k < length free → free_at free k ≡ c → has_index (map (index_of r) free) (index_of r c) ≡ true
+unfolding either
+has_found r c [] k l e = absurd (omega arith)
+has_found r c (x ∷ free) zero l e =
+    either_here (same_index (index_of r x) (index_of r c)) (has_index (map (index_of r) free) (index_of r c))
+    (ap (λ y. same_index (index_of r y) (index_of r c)) e ∙ same_own (index_of r c))
+has_found r c (x ∷ free) (suc k) l e =
+    either_later (same_index (index_of r x) (index_of r c)) (has_index (map (index_of r) free) (index_of r c))
+    (has_found r c free k (omega arith) e)
+
+pub has_absent : (r c : ℕ) (free : List ℕ) → c < 3 ^ r → ((k : ℕ) → k < length free → free_at free k < 3 ^ r) →
+    ((k : ℕ) → k < length free → free_at free k ≡ c → ⊥) → has_index (map (index_of r) free) (index_of r c) ≡ false
+unfolding either
+has_absent r c [] h below away = refl
+has_absent r c (x ∷ free) h below away =
+    either_none (same_index (index_of r x) (index_of r c)) (has_index (map (index_of r) free) (index_of r c))
+    (not_true (same_index (index_of r x) (index_of r c)) (λ e. away 0 (omega arith)
+    (sym (number-index_of r x (below 0 (omega arith))) ∙ ap component_number (same_told (index_of r x) (index_of r c) e) ∙ number-index_of r c h)))
+    (has_absent r c free h (λ k l. below (suc k) (omega arith)) (λ k l. away (suc k) (omega arith)))
+
+-- ---- sums
+later_on : (n : ℕ) (ts : List NamedTerm) → later_terms ts ≡ sum_from (suc n) ts
+later_on n [] = refl
+later_on n (t ∷ ts) = ap (λ x. joined (term_text t.factor t.name) ++ x) (later_on (suc n) ts)
+
+pub sum_whole : (ts : List NamedTerm) → 0 < length ts → sum_from 0 ts ≡ sum_text ts
+sum_whole [] h = absurd (omega arith)
+sum_whole (t ∷ ts) h = ap (λ x. term_text t.factor t.name ++ x) (sym (later_on 0 ts))
+
+-- the name with its factor
+abbrev pub named_term : ℕ → FormValue → Term → NamedTerm
+named_term r f t = record { factor = rational t.factor; name = component_name (index_of r (free_at f.free t.free)) }
+
+abbrev pub text_at : ℕ → FormValue → Term → List ℕ
+text_at r f t = term_text (rational t.factor) (component_name (index_of r (free_at f.free t.free)))
+
+sum_more : (r : ℕ) (f : FormValue) (n : ℕ) (row : List Term) (p : ℕ) (t : Term) → p < length row → t ≡ get_or row p t →
+    sum_from n (named_terms r f (take (suc p) row)) ≡ sum_from n (named_terms r f (take p row)) ++ placed (n + p) (text_at r f t)
+sum_more r f n [] p t l e = absurd (omega arith)
+sum_more r f n (x ∷ row) zero t l e =
+    let same : n ≡ n + zero = omega arith in
+    append_none (placed n (text_at r f x)) ∙ (λ i. placed (same i) (text_at r f (sym e i)))
+sum_more r f n (x ∷ row) (suc p) t l e =
+    let place : suc n + p ≡ n + suc p = omega arith in
+    ap (λ y. placed n (text_at r f x) ++ y) (sum_more r f (suc n) row p t (omega arith) e)
+    ∙ ap (λ k. placed n (text_at r f x) ++ (sum_from (suc n) (named_terms r f (take p row)) ++ placed k (text_at r f t))) place
+    ∙ sym (append_assoc (placed n (text_at r f x)) (sum_from (suc n) (named_terms r f (take p row))) (placed (n + suc p) (text_at r f t)))
+
+-- one more term of a row
+pub sum_grown : (r : ℕ) (f : FormValue) (row : List Term) (p : ℕ) (t : Term) (old text out new : List ℕ) → p < length row →
+    t ≡ get_or row p t → text ≡ text_at r f t → out ≡ old ++ sum_from 0 (named_terms r f (take p row)) → new ≡ out ++ placed p text →
+    new ≡ old ++ sum_from 0 (named_terms r f (take (p + 1) row))
+sum_grown r f row p t old text out new l e is was grown =
+    let next : suc p ≡ p + 1 = omega arith in
+    let start : 0 + p ≡ p = omega arith in
+    grown ∙ (λ i. was i ++ placed p (is i))
+    ∙ append_assoc old (sum_from 0 (named_terms r f (take p row))) (placed p (text_at r f t))
+    ∙ ap (λ k. old ++ (sum_from 0 (named_terms r f (take p row)) ++ placed k (text_at r f t))) (sym start)
+    ∙ ap (λ x. old ++ x) (sym (sum_more r f 0 row p t l e))
+    ∙ ap (λ k. old ++ sum_from 0 (named_terms r f (take k row))) next
+
+pub take_whole : {X : Type 0} (xs : List X) (n : ℕ) → length xs ≤ n → take n xs ≡ xs
+take_whole [] zero h = refl
+take_whole [] (suc n) h = refl
+take_whole (x ∷ xs) zero h = absurd (omega arith)
+take_whole (x ∷ xs) (suc n) h = ap (λ ys. x ∷ ys) (take_whole xs n (omega arith))
+
+pub sum_done : (r : ℕ) (f : FormValue) (row : List Term) (p : ℕ) → 0 < length row → length row ≤ p →
+    sum_from 0 (named_terms r f (take p row)) ≡ sum_text (named_terms r f row)
+sum_done r f row p some end =
+    ap (λ xs. sum_from 0 (named_terms r f xs)) (take_whole row p end)
+    ∙ sum_whole (named_terms r f row) (subst (λ n. 0 < n) (sym (length-map row (named_term r f))) some)
+
+-- ---- names
+digits_more : (is : Index) (p : ℕ) → p < length is →
+    digits_text (map digit (take (suc p) is)) ≡ digits_text (map digit (take p is)) ++ (48 + digit (get_or is p x1)) ∷ []
+digits_more [] p l = absurd (omega arith)
+digits_more (i ∷ is) zero l = refl
+digits_more (i ∷ is) (suc p) l = ap (λ x. (48 + digit i) ∷ x) (digits_more is p (omega arith))
+
+pub name_grown : (is : Index) (p d : ℕ) (old new : List ℕ) → p < length is → d ≡ digit (get_or is p x1) →
+    old ≡ 84 ∷ digits_text (map digit (take p is)) → new ≡ old ++ (48 + d) ∷ [] → new ≡ 84 ∷ digits_text (map digit (take (p + 1) is))
+name_grown is p d old new l e was grown =
+    let next : suc p ≡ p + 1 = omega arith in
+    grown ∙ (λ i. was i ++ (48 + e i) ∷ []) ∙ ap (λ x. 84 ∷ x) (sym (digits_more is p l))
+    ∙ ap (λ k. 84 ∷ digits_text (map digit (take k is))) next
+
+pub name_longer : (old new : List ℕ) (x n : ℕ) → length old ≡ n → new ≡ old ++ x ∷ [] → length new ≡ n + 1
+name_longer old new x n h e = ap length e ∙ length-append old (x ∷ []) ∙ ap (λ k. k + 1) h
+
+pub name_done : (is : Index) (p : ℕ) → length is ≤ p → 84 ∷ digits_text (map digit (take p is)) ≡ component_name is
+name_done is p end = ap (λ xs. 84 ∷ digits_text (map digit xs)) (take_whole is p end)
+
+-- ---- lines
+name_read : (r : ℕ) (free : List ℕ) (k : ℕ) → k < length free →
+    get_or (map component_name (map (index_of r) free)) k [] ≡ component_name (index_of r (free_at free k))
+name_read r [] k l = absurd (omega arith)
+name_read r (x ∷ free) zero l = refl
+name_read r (x ∷ free) (suc k) l = name_read r free k (omega arith)
+
+row_named : (r : ℕ) (f : FormValue) (row : List Term) → Each (λ t. t.free < length f.free) row →
+    named (free_names (form_table r f)) (map term_of row) ≡ named_terms r f row
+row_named r f [] e = refl
+row_named r f (t ∷ row) e =
+    λ i. record { factor = rational t.factor; name = name_read r f.free t.free e.0 i } ∷ row_named r f row e.1 i
+
+pub terms_named : (r c : ℕ) (f : FormValue) → c < 3 ^ r → Each (λ t. t.free < length f.free) (row_at f.rows c) →
+    named (free_names (form_table r f)) ((form_table r f).terms (index_of r c)) ≡ named_terms r f (row_at f.rows c)
+terms_named r c f h e =
+    ap (λ d. named (free_names (form_table r f)) (map term_of (row_at f.rows d))) (number-index_of r c h)
+    ∙ row_named r f (row_at f.rows c) e
+
+equation_joined : (old name sum : List ℕ) → (((old ++ name) ++ (32 ∷ 61 ∷ 32 ∷ [])) ++ sum) ++ 10 ∷ [] ≡ old ++ ((name ++ 32 ∷ (61 ∷ 32 ∷ sum)) ++ 10 ∷ [])
+equation_joined old name sum =
+    ap (λ x. (x ++ sum) ++ 10 ∷ []) (append_assoc old name (32 ∷ 61 ∷ 32 ∷ []))
+    ∙ ap (λ x. x ++ 10 ∷ []) (append_assoc old (name ++ (32 ∷ 61 ∷ 32 ∷ [])) sum)
+    ∙ append_assoc old ((name ++ (32 ∷ 61 ∷ 32 ∷ [])) ++ sum) (10 ∷ [])
+    ∙ ap (λ x. old ++ (x ++ 10 ∷ [])) (append_assoc name (32 ∷ 61 ∷ 32 ∷ []) sum)
+
+free_joined : (old name : List ℕ) → (old ++ name) ++ (32 ∷ (codes "free" ++ 10 ∷ [])) ≡ old ++ ((name ++ 32 ∷ codes "free") ++ 10 ∷ [])
+free_joined old name =
+    append_assoc old name (32 ∷ (codes "free" ++ 10 ∷ [])) ∙ ap (λ x. old ++ x) (sym (append_assoc name (32 ∷ codes "free") (10 ∷ [])))
+
+pub free_line : (r c : ℕ) (f : FormValue) (old one new name : List ℕ) → has_index (map (index_of r) f.free) (index_of r c) ≡ true →
+    name ≡ component_name (index_of r c) → one ≡ old ++ name → new ≡ one ++ (32 ∷ (codes "free" ++ 10 ∷ [])) →
+    new ≡ old ++ component_line (form_table r f) (index_of r c)
+free_line r c f old one new name free is a b =
+    b ∙ ap (λ x. x ++ (32 ∷ (codes "free" ++ 10 ∷ []))) (a ∙ ap (λ x. old ++ x) is) ∙ free_joined old (component_name (index_of r c))
+    ∙ ap (λ t. old ++ row_text t (component_name (index_of r c)) (named (free_names (form_table r f)) ((form_table r f).terms (index_of r c)))) (sym free)
+
+pub sum_line : (r c : ℕ) (f : FormValue) (old one two three new name : List ℕ) → has_index (map (index_of r) f.free) (index_of r c) ≡ false →
+    c < 3 ^ r → Each (λ t. t.free < length f.free) (row_at f.rows c) →
+    name ≡ component_name (index_of r c) → one ≡ old ++ name → two ≡ one ++ (32 ∷ 61 ∷ 32 ∷ []) →
+    three ≡ two ++ sum_text (named_terms r f (row_at f.rows c)) → new ≡ three ++ 10 ∷ [] →
+    new ≡ old ++ component_line (form_table r f) (index_of r c)
+sum_line r c f old one two three new name free below each is a b d e =
+    e ∙ ap (λ x. x ++ 10 ∷ []) (d ∙ ap (λ x. x ++ sum_text (named_terms r f (row_at f.rows c))) (b ∙ ap (λ x. x ++ (32 ∷ 61 ∷ 32 ∷ [])) (a ∙ ap (λ x. old ++ x) is)))
+    ∙ equation_joined old (component_name (index_of r c)) (sum_text (named_terms r f (row_at f.rows c)))
+    ∙ ap (λ ts. old ++ row_text false (component_name (index_of r c)) ts) (sym (terms_named r c f below each))
+    ∙ ap (λ t. old ++ row_text t (component_name (index_of r c)) (named (free_names (form_table r f)) ((form_table r f).terms (index_of r c)))) (sym free)
+
+-- ---- lists that have grown
+pub grown_twice : {a b c : List ℕ} → IsLonger a b → IsLonger b c → IsLonger a c
+grown_twice {a} h k = record {
+  more = h.more ++ k.more;
+  grown = k.grown ∙ ap (λ x. x ++ k.more) h.grown ∙ append_assoc a h.more k.more;
+}
+
+pub lines_start : (f : ℕ → List ℕ) (old : List ℕ) → old ≡ old ++ lines_upto f 0
+unfolding lines_upto
+lines_start f old = sym (append_none old)
+
+pub lines_grown : (f : ℕ → List ℕ) (n : ℕ) (old out new : List ℕ) → out ≡ old ++ lines_upto f n → new ≡ out ++ f n → new ≡ old ++ lines_upto f (n + 1)
+unfolding lines_upto
+lines_grown f n old out new was grown =
+    let next : suc n ≡ n + 1 = omega arith in
+    grown ∙ ap (λ x. x ++ f n) was ∙ append_assoc old (lines_upto f n) (f n) ∙ ap (λ k. old ++ lines_upto f k) next

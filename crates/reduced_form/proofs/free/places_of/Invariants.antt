@@ -1,0 +1,13 @@
+use Rattle.std.proofs.Common.{◌≡◌, length}
+use Rattle.reduced_form.specs.Forms.{ArePlaces}
+use Rattle.reduced_form.proofs.free.places_of.Given as goal
+
+abbrev pub invariant-loop : goal.invariant-loop
+invariant-loop g l = record {
+  len : length l.places.items ≡ l.counter;
+}
+
+abbrev pub invariant-loop-k : goal.invariant-loop-k
+invariant-loop-k g l = record {
+  places : ArePlaces g.R.Rank.LEN l.free l.places.items l.k;
+}

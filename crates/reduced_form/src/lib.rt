@@ -1,0 +1,18 @@
+//! Component tables: the free components of the tensors that a group leaves unchanged, and each component as a sum of
+//! them. Source: International Tables for Crystallography D 1.1.
+#![tactic(auto)]
+
+mod comparing;
+mod forms;
+mod free;
+mod memory;
+mod rows;
+mod solving;
+mod writing;
+
+pub use forms::{Form, Term};
+pub use memory::{NoMemory, SolveFault};
+pub use solving::solve;
+
+#[cfg(test)]
+mod tests;

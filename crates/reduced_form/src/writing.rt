@@ -1,0 +1,187 @@
+//! The component lines of a table.
+ghost use Rattle.std.specs.Prelude.{◌≡◌, ◌+◌, ◌++◌, ◌<◌, ◌≤◌, ℕ, List, length, map, take, codes, OnOk, OnErr, IsTrue, vec_len};
+ghost use Rattle.tensor_defs.specs.Lists.{Each};
+ghost use Rattle.tensor_defs.specs.Tensor.{index_of};
+ghost use Rattle.text_defs.specs.AnswerTexts.{component_line, component_name, has_index, rational, table_text};
+ghost use Rattle.text_defs.specs.NumberTexts.{factor_text, is_negative, is_one, sum_text, term_text, without_sign};
+ghost use Rattle.smallvec.specs.SmallVec.{HasRoomFor, small_vec_len};
+ghost use Rattle.reduced_form.specs.Forms.{form_table, free_at};
+ghost use Rattle.reduced_form.specs.Texts.{IsLonger, named_terms, placed, takes_plus};
+
+use crate::forms::{Form, Term};
+use crate::memory::NoMemory;
+use exact_frac::{Frac, append};
+use smallvec::SmallVec;
+use std::alloc::Global;
+use tensor_rank::{Comp, Rank};
+
+/// Appends bytes, or leaves the list as it was.
+fn append_to(out: &mut Vec<u8>, bytes: &[u8]) -> Result<(), NoMemory>
+    ensures ok { OnOk result (out.new.items ≡ out.old.items ++ bytes.now) }
+    ensures longer { IsLonger out.old.items out.new.items }
+{
+    match out.extend_from_slice(bytes) {
+        Ok(()) => Ok(()),
+        Err(_) => Err(NoMemory),
+    }
+}
+
+/// The name of a component: T and its index digits.
+fn name_of<R: Rank>(alloc: Global, c: Comp<R>) -> SmallVec<u8, 8>
+    ensures name { result.items ≡ component_name (index_of R.R c) }
+    ensures short { length result.items ≤ 7 }
+{
+    let mut name = SmallVec::new(alloc);
+    name.push_reserved(b'T');
+    for place in 0..R::R {
+        name.push_reserved(48 + c.digit(place));
+    }
+    name
+}
+
+/// Whether a fraction is 1.
+fn is_one_factor(factor: &Frac) -> bool
+    ensures { result ≡ is_one factor.now }
+{
+    factor.den() == 1 && factor.num() == 1
+}
+
+/// Whether a fraction is negative.
+fn is_negative_factor(factor: &Frac) -> bool
+    ensures { result ≡ is_negative factor.now }
+{
+    factor.num() < 0
+}
+
+/// A fraction without its sign.
+fn size_of_factor(factor: &Frac) -> Frac
+    ensures { result ≡ without_sign factor.now }
+{
+    if is_negative_factor(factor) {
+        factor.neg()
+    } else {
+        *factor
+    }
+}
+
+/// Appends the factor of a name: nothing at 1, - at -1, else its text and *.
+fn push_factor(text: &mut SmallVec<u8, 64>, alloc: Global, factor: &Frac)
+    requires { HasRoomFor text.old 41 }
+    ensures items { text.new.items ≡ text.old.items ++ factor_text (rational factor.now) }
+    ensures len { small_vec_len text.new ≤ small_vec_len text.old + 41 }
+    ensures capacity { text.new.capacity ≡ text.old.capacity }
+{
+    if !is_one_factor(&size_of_factor(factor)) {
+        append(text, factor.text(alloc).as_slice());
+        append(text, b"*");
+    } else if is_negative_factor(factor) {
+        append(text, b"-");
+    }
+}
+
+/// The text of a term: its factor and the name of its free component.
+fn term_of<R: Rank>(alloc: Global, form: &Form<R>, term: &Term) -> SmallVec<u8, 64>
+    requires { term.now.free < length form.now.free }
+    ensures { result.items ≡ term_text (rational term.now.factor) (component_name (index_of R.R (free_at form.now.free term.now.free))) }
+{
+    let mut text = SmallVec::new(alloc);
+    push_factor(&mut text, alloc, &term.factor);
+    append(
+        &mut text,
+        name_of(alloc, form.free_at(term.free as usize)).as_slice(),
+    );
+    text
+}
+
+/// Whether + stands before a term at a place of a sum: before a later one, unless it begins with -.
+fn takes_plus(text: &[u8], place: usize) -> bool
+    ensures { result ≡ takes_plus place text.now }
+{
+    match text.first() {
+        Some(byte) => place > 0 && *byte != b'-',
+        None => false,
+    }
+}
+
+/// Appends a term at a place of a sum: the first one as it is, a later one with + before it unless it begins with -.
+fn write_term(text: &[u8], place: usize, out: &mut Vec<u8>) -> Result<(), NoMemory>
+    ensures ok { OnOk result (out.new.items ≡ out.old.items ++ placed place text.now) }
+    ensures longer { IsLonger out.old.items out.new.items }
+{
+    if takes_plus(text, place) {
+        append_to(out, b"+")?;
+    }
+    append_to(out, text)
+}
+
+/// Appends the sum of a row: 0 where it has no term.
+fn write_sum<R: Rank>(form: &Form<R>, row: &[Term], out: &mut Vec<u8>) -> Result<(), NoMemory>
+    requires { Each (λ t. t.free < length form.now.free) row.now }
+    ensures ok { OnOk result (out.new.items ≡ out.old.items ++ sum_text (named_terms R.R form.now row.now)) }
+    ensures longer { IsLonger out.old.items out.new.items }
+{
+    if row.is_empty() {
+        return append_to(out, b"0");
+    }
+    let alloc = *form.free.allocator();
+    for place in 0..row.len() {
+        let text = term_of(alloc, form, &row[place]);
+        write_term(text.as_slice(), place, out)?;
+    }
+    Ok(())
+}
+
+/// Whether a component is free.
+fn is_free<R: Rank>(form: &Form<R>, c: Comp<R>) -> bool
+    ensures { result ≡ has_index (map (index_of R.R) form.now.free) (index_of R.R c) }
+{
+    let number = c.number();
+    for place in 0..form.free.len() {
+        if form.free[place] == number {
+            return true;
+        }
+    }
+    false
+}
+
+/// Appends the line of the component of a number.
+fn write_line<R: Rank>(form: &Form<R>, number: usize, out: &mut Vec<u8>) -> Result<(), NoMemory>
+    requires { number < R.LEN }
+    ensures ok { OnOk result (out.new.items ≡ out.old.items ++ component_line (form_table R.R form.now) (index_of R.R number)) }
+    ensures longer { IsLonger out.old.items out.new.items }
+{
+    let c = Comp::at(number);
+    append_to(out, name_of(*form.free.allocator(), c).as_slice())?;
+    if is_free(form, c) {
+        return append_to(out, b" free\n");
+    }
+    append_to(out, b" = ")?;
+    write_sum(form, form.row(c), out)?;
+    append_to(out, b"\n")
+}
+
+/// Appends the lines of all components. After an error, lines may stand behind what was there.
+fn write_lines<R: Rank>(form: &Form<R>, out: &mut Vec<u8>) -> Result<(), NoMemory>
+    ensures ok { OnOk result (out.new.items ≡ out.old.items ++ table_text R.R (form_table R.R form.now)) }
+    ensures longer { IsLonger out.old.items out.new.items }
+{
+    for number in 0..R::LEN {
+        write_line(form, number, out)?;
+    }
+    Ok(())
+}
+
+impl<R: Rank> Form<R> {
+    /// Appends the component lines of the table. After `NoMemory` the list is as before.
+    pub fn write_table(&self, out: &mut Vec<u8>) -> Result<(), NoMemory>
+        ensures ok { OnOk result (out.new.items ≡ out.old.items ++ table_text R.R (form_table R.R self.now)) }
+        ensures err { OnErr result (out.new.items ≡ out.old.items) }
+    {
+        let start = out.len();
+        let written = write_lines(self, out);
+        if written.is_err() {
+            out.truncate(start);
+        }
+        written
+    }
+}

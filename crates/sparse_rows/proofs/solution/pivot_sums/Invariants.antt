@@ -1,0 +1,7 @@
+use Rattle.std.proofs.Common.{◌≤◌, length, take}
+use Rattle.sparse_rows.specs.KeptRows.{kepts}
+use Rattle.sparse_rows.specs.Sums.{AreSolved}
+use Rattle.sparse_rows.proofs.solution.pivot_sums.Given as goal
+
+abbrev pub invariant-loop-row : goal.invariant-loop-row
+invariant-loop-row l = AreSolved (kepts l.kept) (kepts (take l.row-index l.kept)) l.sums.items × (l.row-index ≤ length l.kept)

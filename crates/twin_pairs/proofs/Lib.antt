@@ -1,0 +1,3 @@
+pub mod DoubleCosets
+pub mod Listings
+pub mod Assembly

@@ -1,0 +1,216 @@
+//! Pair classes of domain states: the double cosets of a group in a group, with what is told of each. Source:
+//! International Tables for Crystallography D 3.4.
+#![tactic(auto)]
+
+ghost use Rattle.std.specs.Prelude.{◌≡◌, ◌≤◌, ◌<◌, ◌↔◌, ℕ, IsTrue, IfOk, length, Contains, slice_get, Some, None, [], ◌∷◌, ◌++◌, map};
+ghost use Rattle.tensor_defs.specs.Operation.{Operation};
+ghost use Rattle.tensor_defs.specs.States.{InDouble, IsState, IsSwappable};
+ghost use Rattle.tensor_defs.specs.PairClasses.{ArePairClasses};
+ghost use Rattle.magnetic_groups.specs.Sets.{In};
+ghost use Rattle.coset_states.specs.Numbering.{TellsState};
+ghost use Rattle.twin_pairs.specs.Classes.{AreMembers, IsClassFrom, TellsEarlier, class_of};
+
+#[cfg(test)]
+mod tests;
+
+use coset_states::States;
+use group_names::name_of;
+use group_symbol::SymbolTree;
+use magnetic_groups::Group;
+use op_matrix::Op;
+use std::alloc::{AllocError, Global};
+use std::marker::Model;
+
+/// No memory was left.
+#[derive(Clone, Copy, Debug, PartialEq, Eq, Drop)]
+pub struct NoMemory;
+
+impl From<AllocError> for NoMemory {
+    fn from(_: AllocError) -> NoMemory {
+        NoMemory
+    }
+}
+
+impl From<magnetic_groups::NoMemory> for NoMemory {
+    fn from(_: magnetic_groups::NoMemory) -> NoMemory {
+        NoMemory
+    }
+}
+
+impl From<group_names::NoMemory> for NoMemory {
+    fn from(_: group_names::NoMemory) -> NoMemory {
+        NoMemory
+    }
+}
+
+/// The numbers of the states of a class, rising.
+#[derive(Drop)]
+pub struct Members {
+    numbers: Vec<usize>,
+}
+
+impl Model for Members {
+    ghost use Rattle.std.specs.Prelude.{List, ℕ};
+
+    ghost Value = { List ℕ };
+
+    ghost view = { λ s. s.numbers.items };
+}
+
+impl Members {
+    /// How many they are.
+    pub fn len(&self) -> usize
+        ensures { result ≡ length self.now }
+    {
+        self.numbers.len()
+    }
+
+    /// The number at a place, counted from 0.
+    pub fn at(&self, place: usize) -> usize
+        requires { place < length self.now }
+        ensures { slice_get self.now place ≡ Some result }
+    {
+        self.numbers[place]
+    }
+}
+
+/// A class of ordered pairs of the first state and another.
+#[derive(Drop)]
+pub struct PairClass {
+    /// The numbers of the other states.
+    pub members: Members,
+    /// Whether an element of the whole group exchanges the two states.
+    pub swappable: bool,
+    /// The elements that keep both states.
+    pub pair_group: Group,
+    /// Its name.
+    pub pair_name: Option<SymbolTree>,
+    /// The group that the subgroup and the least state's representative generate.
+    pub twin_group: Group,
+    /// Its name.
+    pub twin_name: Option<SymbolTree>,
+}
+
+/// Whether a state lies in the double coset of an element.
+fn is_member(states: &States, element: &Op, k: usize) -> bool
+    requires from_one { 1 ≤ k }
+    requires to_count { k ≤ length states.now.reps }
+    requires inside { Contains states.now.whole element.now }
+    ensures { (g : Operation) → TellsState states.now g (Some k) → IsTrue result ↔ InDouble (In states.now.sub) element.now g }
+{
+    let _count = states.count();
+    let sub = states.sub();
+    for place in 0..sub.len() {
+        let member = sub.at(place);
+        let product = member.product(element);
+        if states.has(k, &product) {
+            return true;
+        }
+    }
+    false
+}
+
+/// The first state before a state that lies in the double coset of an element.
+fn first_earlier(states: &States, element: &Op, k: usize) -> Option<usize>
+    requires to_count { k ≤ length states.now.reps }
+    requires inside { Contains states.now.whole element.now }
+    ensures { TellsEarlier states.now element.now k result }
+{
+    let _count = states.count();
+    for earlier in 1..k {
+        if is_member(states, element, earlier) {
+            return Some(earlier);
+        }
+    }
+    None
+}
+
+/// The numbers of the states in the double coset of the representative of state `k`, the least of them.
+fn list_members(
+    alloc: Global,
+    states: &States,
+    element: &Op,
+    k: usize,
+) -> Result<Members, AllocError>
+    requires least { IsState states.now.reps k element.now }
+    requires to_count { k ≤ length states.now.reps }
+    requires inside { Contains states.now.whole element.now }
+    requires first { TellsEarlier states.now element.now k None }
+    ensures { IfOk result (AreMembers states.now element.now k) }
+{
+    let mut numbers = Vec::new(alloc);
+    numbers.push(k)?;
+    for place in k..states.count() {
+        if is_member(states, element, place + 1) {
+            numbers.push(place + 1)?;
+        }
+    }
+    Ok(Members { numbers })
+}
+
+/// Whether some element of the whole group exchanges the first state and that of the element.
+fn is_swappable(states: &States, element: &Op) -> bool
+    requires inside { Contains states.now.whole element.now }
+    ensures { IsTrue result ↔ IsSwappable (In states.now.whole) (In states.now.sub) element.now }
+{
+    let _count = states.count();
+    let sub = states.sub();
+    for place in 0..sub.len() {
+        let member = sub.at(place);
+        let half = element.product(&member);
+        let product = half.product(element);
+        if sub.has(&product) {
+            return true;
+        }
+    }
+    false
+}
+
+/// The class of the state `k`, the least of its class.
+fn pair_class(alloc: Global, states: &States, element: &Op, k: usize) -> Result<PairClass, NoMemory>
+    requires least { IsState states.now.reps k element.now }
+    requires to_count { k ≤ length states.now.reps }
+    requires inside { Contains states.now.whole element.now }
+    requires first { TellsEarlier states.now element.now k None }
+    ensures { IfOk result (λ c. IsClassFrom states.now element.now k (class_of c)) }
+{
+    let _count = states.count();
+    let members = list_members(alloc, states, element, k)?;
+    let swappable = is_swappable(states, element);
+    let sub = states.sub();
+    let pair_group = sub.meet_conjugate(alloc, element)?;
+    let pair_name = name_of(alloc, &pair_group)?;
+    let twin_group = sub.joined(alloc, element)?;
+    let twin_name = name_of(alloc, &twin_group)?;
+    Ok(PairClass {
+        members,
+        swappable,
+        pair_group,
+        pair_name,
+        twin_group,
+        twin_name,
+    })
+}
+
+/// Puts a class at the end.
+fn append(classes: &mut Vec<PairClass>, class: PairClass) -> Result<(), AllocError>
+    ensures { IfOk result (λ _. classes.new.items ≡ classes.old.items ++ class ∷ []) }
+{
+    classes.push(class)?;
+    Ok(())
+}
+
+/// The pair classes in the order of their least states.
+pub fn pair_classes(alloc: Global, states: &States) -> Result<Vec<PairClass>, NoMemory>
+    ensures { IfOk result (λ v. ArePairClasses (In states.now.whole) (In states.now.sub) states.now.reps (map class_of v.items)) }
+{
+    let mut classes = Vec::new(alloc);
+    for place in 0..states.count() {
+        let element = states.representative(place + 1);
+        if first_earlier(states, &element, place + 1).is_none() {
+            let class = pair_class(alloc, states, &element, place + 1)?;
+            append(&mut classes, class)?;
+        }
+    }
+    Ok(classes)
+}
