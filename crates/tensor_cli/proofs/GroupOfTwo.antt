@@ -1,8 +1,8 @@
 -- The group of 2, made from the trivial group and the rotation, and the axes that it keeps.
-use Rattle.std.proofs.Common.{◌≡◌, ◌≢◌, ℕ, ◌<◌, true, false, Bool, IsTrue, ◌↔◌, List, [], ◌∷◌, ◌++◌, length, refl, sym, ◌∙◌, ap, subst, lit<, ◌⊎◌, inl, inr, Contains}
+use Rattle.std.proofs.Common.{◌≡◌, true, false, Bool, IsTrue, ◌↔◌, List, [], ◌∷◌, refl, sym, ◌∙◌, ap, subst, ◌⊎◌, inl, inr, Contains}
 use lib.IntN.{pos, negsuc}
 use mathlib.Core.Bool.{xor}
-use Rattle.tensor_defs.specs.Frames.{IsPlain, IsHexagonal}
+use Rattle.tensor_defs.specs.Frames.{IsPlain}
 use Rattle.tensor_defs.specs.Group.{Generated, InGroup}
 use Rattle.tensor_defs.specs.Lists.{IsListing}
 use Rattle.tensor_defs.specs.OperationOrder.{comes_before}

@@ -6,7 +6,7 @@
 --   screen_refuses, unbuilt_refuses    the refusal of another request
 --   slow            a line that spells a request may take memory
 use Rattle.std.proofs.Common.{◌≡◌, inl, inr, ℕ, ◌+◌, ◌<◌, ◌≤◌, ◌↔◌, Bool, IsTrue, true, false, List, [], ◌∷◌, ◌++◌, length, refl, sym, subst, arith}
-use Rattle.std.specs.Prelude.{codes, Option, Some, None}
+use Rattle.std.specs.Prelude.{codes, Some, None}
 use Rattle.std.specs.Fmt.{digits}
 use Rattle.tensor_defs.specs.Group.{InGroup, IsAccepted}
 use Rattle.tensor_defs.specs.Lists.{IsListing}
@@ -16,7 +16,7 @@ use Rattle.text_defs.specs.AnswerTexts.{elements_text}
 use Rattle.text_defs.specs.Answers.{IsAnswer}
 use Rattle.text_defs.specs.Refusals.{RefusalWord, Refuses, RefusesRequest}
 use Rattle.text_defs.specs.Refusals.RefusalWord.{Long, Syntax, Primes, Rank, Shape, NotSub, TooLarge}
-use Rattle.text_defs.specs.Requests.{GroupAt, JahnAt, Request, SpellsRequest, IsNoRequest}
+use Rattle.text_defs.specs.Requests.{GroupAt, Request, SpellsRequest, IsNoRequest}
 use Rattle.text_defs.specs.Requests.Request.{Form, Group, Voigt, States, Pairs, Differ, Same}
 use Rattle.text_laws.proofs.RequestUnique.{one_request_spelled}
 use Rattle.std.proofs.Common.{◌∙◌, ap}
@@ -28,7 +28,7 @@ use Rattle.tensor_cli.specs.Stage.{StageWord, IsBuilt, StageRefuses, StageAnswer
 use Rattle.tensor_cli.specs.Stage.{stage_refusal_text}
 use Rattle.tensor_cli.specs.Stage.StageWord.{Refused, Unbuilt}
 use Rattle.tensor_cli.specs.Reads.{Stands}
-use Rattle.tensor_cli.specs.Screening.{AsksOther, Screens}
+use Rattle.tensor_cli.specs.Screening.{Screens}
 use Rattle.tensor_cli.specs.Words.{word_of}
 use Rattle.tensor_cli.specs.Forms.{vector_form_text}
 use Rattle.tensor_cli.specs.declared.answers.LineEnd.TheVariants as line_end

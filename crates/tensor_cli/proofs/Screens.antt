@@ -3,16 +3,15 @@
 --   known_rank, more_rank    the rank of the tensor's word
 --   found_groups, found_rank, found_none    what is found at a request
 --   columns_near    the words of a request stand within the line
-use Rattle.std.proofs.Common.{◌≡◌, ℕ, ◌+◌, ◌<◌, ◌≤◌, List, [], ◌∷◌, ◌++◌, length, length-append, refl, ap, sym, ◌∙◌, subst, arith}
+use Rattle.std.proofs.Common.{◌≡◌, ℕ, ◌+◌, ◌<◌, ◌≤◌, List, [], ◌∷◌, refl, ap, sym, ◌∙◌, subst}
 use Rattle.std.proofs.Common.{inl, inr}
-use Rattle.std.specs.Prelude.{Option, Some, None, drop, take, Ok, ◌-◌}
+use Rattle.std.specs.Prelude.{Option, Some, None, Ok}
 use Rattle.tensor_defs.specs.Group.{IsAccepted}
 use Rattle.tensor_defs.specs.Jahn.{rank}
 use Rattle.tensor_defs.specs.Lists.{Each}
 use Rattle.text_defs.specs.JahnTexts.{SpellsJahn}
-use Rattle.text_defs.specs.Refusals.{FirstRefused, groups_of, jahn_of, InRank, OverRank}
-use Rattle.text_defs.specs.Requests.{GroupAt, JahnAt, Request, SpellsRequest}
-use Rattle.text_defs.specs.Requests.Request.{Form, Group, Voigt, States, Pairs, Differ, Same}
+use Rattle.text_defs.specs.Refusals.{groups_of, jahn_of, InRank, OverRank}
+use Rattle.text_defs.specs.Requests.{GroupAt, JahnAt, Request}
 use Rattle.text_laws.proofs.JahnUnique.{one_jahn}
 use Rattle.jahn_grammar.specs.declared.RankCount.TheVariants.{Known, More}
 use Rattle.jahn_grammar.specs.Views.{ReadsRank}
@@ -22,7 +21,7 @@ use Rattle.request_lines.specs.declared.Span.{Span}
 use Rattle.tensor_cli.specs.declared.screening.Parts.{Parts}
 use Rattle.tensor_cli.specs.declared.refusals.Refusal.{Refusal}
 use Rattle.tensor_cli.specs.declared.refusals.Word.TheVariants.{Primes, Rank}
-use Rattle.tensor_cli.specs.Screening.{TellsGroups, TellsTensor, TellsParts, IsNear, AreNear, ScreensGroup, ScreensGroups}
+use Rattle.tensor_cli.specs.Screening.{TellsGroups, TellsTensor, TellsParts, ScreensGroup, ScreensGroups}
 use Rattle.tensor_cli.specs.Screening.{ScreensRank, ScreenRefuses, Screens}
 
 accepted_told : (g : Named) (a : GroupAt) → TellsGroup g a → IsAccepted g.tree → IsAccepted a.symbol

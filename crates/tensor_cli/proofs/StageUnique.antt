@@ -1,5 +1,5 @@
 -- A line has at most one refusal and one answer.
-use Rattle.std.proofs.Common.{◌≡◌, inl, inr, ℕ, ◌≤◌, List, [], ◌∷◌, length, refl, sym, ◌∙◌, ap, subst, arith}
+use Rattle.std.proofs.Common.{inl, inr, ℕ, ◌≤◌, List, [], ◌∷◌, length, refl, sym, ◌∙◌, ap, subst, arith}
 use Rattle.std.specs.Prelude.{Option, Some, None}
 use Rattle.tensor_defs.specs.Group.{IsAccepted}
 use Rattle.tensor_defs.specs.Lists.{Each}
@@ -9,7 +9,7 @@ use Rattle.text_defs.specs.Requests.{GroupAt, JahnAt}
 use Rattle.text_laws.proofs.RequestUnique.{one_request_spelled}
 use Rattle.answer_laws.proofs.RefusalUnique.{one_refusal_lem}
 use Rattle.answer_laws.proofs.Lines.{one_answer_lem}
-use Rattle.tensor_cli.specs.Stage.{StageWord, IsUnbuilt, StageRefuses, stage_refusal_text}
+use Rattle.tensor_cli.specs.Stage.{IsUnbuilt, StageRefuses, stage_refusal_text}
 use Rattle.tensor_cli.specs.Stage.StageWord.{Refused, Unbuilt}
 use Rattle.tensor_cli.specs.Laws.{OneStageRefusal, OneStageAnswer}
 

@@ -19,7 +19,7 @@ use Rattle.request_lines.specs.declared.Span.{Span}
 use Rattle.tensor_cli.specs.declared.screening.Parts.{Parts}
 use Rattle.tensor_cli.specs.declared.refusals.Refusal.{Refusal}
 use Rattle.tensor_cli.specs.declared.refusals.Word.{Word}
-use Rattle.tensor_cli.specs.declared.refusals.Word.TheVariants.{Long, Syntax, Primes, Rank, Unbuilt}
+use Rattle.tensor_cli.specs.declared.refusals.Word.TheVariants.{Primes, Rank}
 
 abbrev pub TellsGroups : Named → Option Named → List GroupAt → Type 0
 TellsGroups g None (a ∷ []) = TellsGroup g a

@@ -1,5 +1,5 @@
-use Rattle.std.proofs.Common.{◌≡◌, ◌<◌, ◌∙◌, ap, ◌++◌, List, ℕ, length, refl, rules}
-use Rattle.std.proofs.lemmas.Result.{IfOk-weaker, on_ok_weaker}
+use Rattle.std.proofs.Common.{◌<◌, ◌∙◌, ap, ◌++◌, length, refl, rules}
+use Rattle.std.proofs.lemmas.Result.{IfOk-weaker}
 use Rattle.text_defs.specs.Refusals.{RefusalWord}
 use Rattle.text_defs.specs.Requests.{IsNoRequest}
 use Rattle.tensor_cli.specs.Stage.{StageWord, StageRefuses, stage_refusal_text}

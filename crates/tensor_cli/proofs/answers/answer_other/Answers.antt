@@ -1,5 +1,5 @@
-use Rattle.std.proofs.Common.{◌≡◌, ◌∙◌, ap, ◌++◌, Bool, List, [], subst}
-use Rattle.std.specs.Prelude.{Option, Some, None}
+use Rattle.std.proofs.Common.{◌∙◌, ap, ◌++◌, Bool, List, subst}
+use Rattle.std.specs.Prelude.{Option}
 use Rattle.text_defs.specs.Requests.{Request}
 use Rattle.tensor_cli.specs.Forms.{vector_form_text}
 use Rattle.tensor_cli.specs.Screening.{Screens, TellsParts}

@@ -1,5 +1,5 @@
 use Rattle.std.proofs.Common.{List, subst}
-use Rattle.std.specs.Prelude.{Option, Some, None}
+use Rattle.std.specs.Prelude.{Option}
 use Rattle.text_defs.specs.Requests.{GroupAt}
 use Rattle.tensor_cli.specs.declared.refusals.Refusal.{Refusal}
 use Rattle.tensor_cli.specs.Screening.{ScreensGroups, TellsGroups}

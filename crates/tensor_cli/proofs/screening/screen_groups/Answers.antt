@@ -1,11 +1,10 @@
-use Rattle.std.proofs.Common.{List, subst, sym}
+use Rattle.std.proofs.Common.{subst}
 use Rattle.std.proofs.lemmas.Result.{IfOk-weaker}
-use Rattle.std.specs.Prelude.{Option, Some, None}
-use Rattle.text_defs.specs.Requests.{GroupAt}
+use Rattle.std.specs.Prelude.{Option}
 use Rattle.tensor_defs.specs.Group.{IsAccepted}
 use Rattle.request_lines.specs.declared.Named.{Named}
 use Rattle.tensor_cli.specs.declared.refusals.Refusal.{Refusal}
-use Rattle.tensor_cli.specs.Screening.{ScreensGroup, ScreensGroups, TellsGroups}
+use Rattle.tensor_cli.specs.Screening.{ScreensGroup, TellsGroups}
 use Rattle.tensor_cli.proofs.Screens.{first_found, second_found}
 use Rattle.tensor_cli.proofs.screening.screen_groups.Goals as goal
 

@@ -1,8 +1,4 @@
-use Rattle.std.proofs.Common.{◌∙◌, sym, ap, ℕ}
-use Rattle.std.specs.Prelude.{Ok}
-use Rattle.jahn_grammar.specs.Views.{ReadsRank}
-use Rattle.tensor_cli.specs.declared.refusals.Refusal.{Refusal}
-use Rattle.tensor_cli.specs.declared.refusals.Word.TheVariants.{Rank}
+use Rattle.std.proofs.Common.{◌∙◌, sym}
 use Rattle.tensor_cli.proofs.Screens.{known_rank, more_rank, rank_at}
 use Rattle.tensor_cli.proofs.screening.screen_rank.Goals as goal
 
