@@ -1,3 +1,4 @@
 pub mod PlainOps
 pub mod Reading
 pub mod Classes
+pub mod WordRows

@@ -8,9 +8,11 @@ mod memory;
 mod op_moves;
 mod ops;
 mod reading;
+mod rows;
 
 pub use classing::{Classes, plain_classes};
 pub use memory::NoMemory;
+pub use rows::{Part, Row};
 
 #[cfg(test)]
 mod tests;
