@@ -6,5 +6,5 @@ mod operations;
 mod room;
 
 pub use entries::entry_number;
-pub use operations::write_elements;
-pub use room::NoMemory;
+pub use operations::{OperationList, write_elements, write_numbered};
+pub use room::{NoMemory, append_to};

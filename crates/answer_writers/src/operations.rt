@@ -1,5 +1,5 @@
 //! Lists of operations.
-ghost use Rattle.std.specs.Prelude.{◌≡◌, ◌++◌, ◌+◌, ◌<◌, ◌≤◌, ◌∷◌, [], List, ℕ, codes, length, take, OnErr, OnOk, vec_capacity};
+ghost use Rattle.std.specs.Prelude.{◌≡◌, ◌++◌, ◌+◌, ◌<◌, ◌≤◌, ◌∷◌, [], codes, length, OnErr, OnOk, vec_capacity};
 ghost use Rattle.std.specs.Fmt.{decimal};
 ghost use Rattle.text_defs.specs.GroupTexts.{group_text};
 ghost use Rattle.smallvec.specs.SmallVec.{HasRoomFor, small_vec_len};
@@ -16,6 +16,35 @@ use magnetic_groups::Group;
 use op_matrix::Op;
 use smallvec::SmallVec;
 use std::alloc::Global;
+
+/// A list of operations that is read by place.
+pub trait OperationList {
+    ghost use Rattle.std.specs.Prelude.{◌≡◌, ◌<◌, List, Some, length, slice_get};
+    ghost use Rattle.tensor_defs.specs.Operation.{Operation};
+
+    ghost listed: { Self → List Operation };
+
+    /// How many they are.
+    fn size(&self) -> usize
+        ensures { result ≡ length (listed self.now) };
+
+    /// The operation at a place, counted from 0.
+    fn operation(&self, place: usize) -> Op
+        requires { place < length (listed self.now) }
+        ensures { slice_get (listed self.now) place ≡ Some result };
+}
+
+impl OperationList for Group {
+    ghost listed = { λ g. g };
+
+    fn size(&self) -> usize {
+        self.len()
+    }
+
+    fn operation(&self, place: usize) -> Op {
+        self.at(place)
+    }
+}
 
 /// Appends a row of a matrix: its three entries with one space between two.
 fn push_row(line: &mut SmallVec<u8, 128>, alloc: Global, op: &Op, row: usize)
@@ -50,7 +79,7 @@ fn push_operation(line: &mut SmallVec<u8, 128>, alloc: Global, op: &Op)
 }
 
 /// The line of an operation with its number: a word of at most 8 bytes, the number and the operation.
-pub fn operation_line(alloc: Global, word: &str, number: u8, op: &Op) -> SmallVec<u8, 128>
+fn operation_line(alloc: Global, word: &str, number: usize, op: &Op) -> SmallVec<u8, 128>
     requires { length word.now ≤ 8 }
     ensures { result.items ≡ line_of (word.now ∷ decimal number ∷ operation_text op.now ∷ []) }
 {
@@ -63,6 +92,46 @@ pub fn operation_line(alloc: Global, word: &str, number: u8, op: &Op) -> SmallVe
     push_operation(&mut line, alloc, op);
     append(&mut line, b"\n");
     line
+}
+
+/// Appends a line for each operation, numbered from 1. After `NoMemory` the list begins as before.
+fn write_lines<L: OperationList>(
+    alloc: Global,
+    word: &str,
+    list: &L,
+    out: &mut Vec<u8>,
+) -> Result<(), NoMemory>
+    requires { length word.now ≤ 8 }
+    ensures ok { OnOk result (out.new.items ≡ out.old.items ++ numbered word.now 1 (L.listed list.now)) }
+    ensures longer { IsLonger out.old.items out.new.items }
+    ensures capacity { vec_capacity out.old ≤ vec_capacity out.new }
+{
+    for place in 0..list.size() {
+        let line = operation_line(alloc, word, place + 1, &list.operation(place));
+        append_to(out, line.as_slice())?;
+    }
+    Ok(())
+}
+
+/// Appends a line for each operation: a word of at most 8 bytes, its number, counted from 1, and the operation. After
+/// `NoMemory` the list is as before.
+pub fn write_numbered<L: OperationList>(
+    alloc: Global,
+    word: &str,
+    list: &L,
+    out: &mut Vec<u8>,
+) -> Result<(), NoMemory>
+    requires { length word.now ≤ 8 }
+    ensures ok { OnOk result (out.new.items ≡ out.old.items ++ numbered word.now 1 (L.listed list.now)) }
+    ensures err { OnErr result (out.new.items ≡ out.old.items) }
+    ensures capacity { vec_capacity out.old ≤ vec_capacity out.new }
+{
+    let start = out.len();
+    let written = write_lines(alloc, word, list, out);
+    if written.is_err() {
+        out.truncate(start);
+    }
+    written
 }
 
 /// Appends the header of a list of elements.
@@ -80,9 +149,8 @@ fn write_header(tree: &SymbolTree, count: usize, out: &mut Vec<u8>) -> Result<()
     Ok(())
 }
 
-/// Appends the answer to a request for the elements of a group: the header, and a line for each element in the order of
-/// operations. After `NoMemory` the list begins as before.
-pub fn write_elements(
+/// Appends the header and a line for each element. After `NoMemory` the list begins as before.
+fn write_listing(
     alloc: Global,
     tree: &SymbolTree,
     group: &Group,
@@ -93,9 +161,25 @@ pub fn write_elements(
     ensures capacity { vec_capacity out.old ≤ vec_capacity out.new }
 {
     write_header(tree, group.len(), out)?;
-    for place in 0..group.len() {
-        let line = operation_line(alloc, "element", place as u8 + 1, &group.at(place));
-        append_to(out, line.as_slice())?;
+    write_lines(alloc, "element", group, out)
+}
+
+/// Appends the answer to a request for the elements of a group: the header, and a line for each element in the order of
+/// operations. After `NoMemory` the list is as before.
+pub fn write_elements(
+    alloc: Global,
+    tree: &SymbolTree,
+    group: &Group,
+    out: &mut Vec<u8>,
+) -> Result<(), NoMemory>
+    ensures ok { OnOk result (out.new.items ≡ out.old.items ++ elements_text tree.now group.now) }
+    ensures err { OnErr result (out.new.items ≡ out.old.items) }
+    ensures capacity { vec_capacity out.old ≤ vec_capacity out.new }
+{
+    let start = out.len();
+    let written = write_listing(alloc, tree, group, out);
+    if written.is_err() {
+        out.truncate(start);
     }
-    Ok(())
+    written
 }

@@ -1,6 +1,6 @@
 //! The text of a symbol.
 
-ghost use Rattle.std.specs.Prelude.{◌≡◌, ◌++◌, IfOk, OnErr, take, vec_len};
+ghost use Rattle.std.specs.Prelude.{◌≡◌, ◌≤◌, ◌++◌, IfOk, OnErr, take, vec_len, vec_capacity};
 ghost use Rattle.tensor_defs.specs.Jahn.{IsAtom, IsFactor};
 ghost use Rattle.text_defs.specs.JahnTexts.{atom_text, factor_text, factors_text, jahn_text};
 ghost use Rattle.jahn_grammar.specs.Trees.{atom_of, factor_of, factors_of};
@@ -14,6 +14,7 @@ fn push_atom(atom: &Atom, out: &mut Vec<u8>) -> Result<(), NoMemory>
     requires { IsAtom (atom_of atom.now) }
     ensures text { IfOk result (λ _. out.new.items ≡ out.old.items ++ atom_text (atom_of atom.now)) }
     ensures front { take (vec_len out.old) out.new.items ≡ out.old.items }
+    ensures capacity { vec_capacity out.old ≤ vec_capacity out.new }
 {
     match atom {
         Atom::V => out.push(b'V')?,
@@ -38,6 +39,7 @@ fn push_factor(factor: &Factor, out: &mut Vec<u8>) -> Result<(), NoMemory>
     requires { IsFactor (factor_of factor.now) }
     ensures text { IfOk result (λ _. out.new.items ≡ out.old.items ++ factor_text (factor_of factor.now)) }
     ensures front { take (vec_len out.old) out.new.items ≡ out.old.items }
+    ensures capacity { vec_capacity out.old ≤ vec_capacity out.new }
 {
     push_atom(&factor.atom, out)?;
     if factor.power != 1 {
@@ -62,6 +64,7 @@ fn head(jahn: &Jahn) -> &'static [u8]
 fn push_jahn(jahn: &Jahn, out: &mut Vec<u8>) -> Result<(), NoMemory>
     ensures text { IfOk result (λ _. out.new.items ≡ out.old.items ++ jahn_text (symbol_of jahn.now)) }
     ensures front { take (vec_len out.old) out.new.items ≡ out.old.items }
+    ensures capacity { vec_capacity out.old ≤ vec_capacity out.new }
 {
     out.extend_from_slice(head(jahn))?;
     for place in 0..jahn.body.len() {
@@ -75,6 +78,7 @@ fn push_jahn(jahn: &Jahn, out: &mut Vec<u8>) -> Result<(), NoMemory>
 pub fn write_jahn(jahn: &Jahn, out: &mut Vec<u8>) -> Result<(), NoMemory>
     ensures text { IfOk result (λ _. out.new.items ≡ out.old.items ++ jahn_text (symbol_of jahn.now)) }
     ensures kept { OnErr result (out.new.items ≡ out.old.items) }
+    ensures capacity { vec_capacity out.old ≤ vec_capacity out.new }
 {
     let before = out.len();
     let written = push_jahn(jahn, out);

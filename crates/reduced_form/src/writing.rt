@@ -1,5 +1,5 @@
 //! The component lines of a table.
-ghost use Rattle.std.specs.Prelude.{◌≡◌, ◌+◌, ◌++◌, ◌<◌, ◌≤◌, ℕ, List, length, map, take, codes, OnOk, OnErr, IsTrue, vec_len};
+ghost use Rattle.std.specs.Prelude.{◌≡◌, ◌+◌, ◌++◌, ◌<◌, ◌≤◌, ℕ, List, length, map, take, codes, OnOk, OnErr, IsTrue, vec_len, vec_capacity};
 ghost use Rattle.tensor_defs.specs.Lists.{Each};
 ghost use Rattle.tensor_defs.specs.Tensor.{index_of};
 ghost use Rattle.text_defs.specs.AnswerTexts.{component_line, component_name, has_index, rational, table_text};
@@ -19,6 +19,7 @@ use tensor_rank::{Comp, Rank};
 fn append_to(out: &mut Vec<u8>, bytes: &[u8]) -> Result<(), NoMemory>
     ensures ok { OnOk result (out.new.items ≡ out.old.items ++ bytes.now) }
     ensures longer { IsLonger out.old.items out.new.items }
+    ensures capacity { vec_capacity out.old ≤ vec_capacity out.new }
 {
     match out.extend_from_slice(bytes) {
         Ok(()) => Ok(()),
@@ -107,6 +108,7 @@ fn takes_plus(text: &[u8], place: usize) -> bool
 fn write_term(text: &[u8], place: usize, out: &mut Vec<u8>) -> Result<(), NoMemory>
     ensures ok { OnOk result (out.new.items ≡ out.old.items ++ placed place text.now) }
     ensures longer { IsLonger out.old.items out.new.items }
+    ensures capacity { vec_capacity out.old ≤ vec_capacity out.new }
 {
     if takes_plus(text, place) {
         append_to(out, b"+")?;
@@ -119,6 +121,7 @@ fn write_sum<R: Rank>(form: &Form<R>, row: &[Term], out: &mut Vec<u8>) -> Result
     requires { Each (λ t. t.free < length form.now.free) row.now }
     ensures ok { OnOk result (out.new.items ≡ out.old.items ++ sum_text (named_terms R.R form.now row.now)) }
     ensures longer { IsLonger out.old.items out.new.items }
+    ensures capacity { vec_capacity out.old ≤ vec_capacity out.new }
 {
     if row.is_empty() {
         return append_to(out, b"0");
@@ -149,6 +152,7 @@ fn write_line<R: Rank>(form: &Form<R>, number: usize, out: &mut Vec<u8>) -> Resu
     requires { number < R.LEN }
     ensures ok { OnOk result (out.new.items ≡ out.old.items ++ component_line (form_table R.R form.now) (index_of R.R number)) }
     ensures longer { IsLonger out.old.items out.new.items }
+    ensures capacity { vec_capacity out.old ≤ vec_capacity out.new }
 {
     let c = Comp::at(number);
     append_to(out, name_of(*form.free.allocator(), c).as_slice())?;
@@ -164,6 +168,7 @@ fn write_line<R: Rank>(form: &Form<R>, number: usize, out: &mut Vec<u8>) -> Resu
 fn write_lines<R: Rank>(form: &Form<R>, out: &mut Vec<u8>) -> Result<(), NoMemory>
     ensures ok { OnOk result (out.new.items ≡ out.old.items ++ table_text R.R (form_table R.R form.now)) }
     ensures longer { IsLonger out.old.items out.new.items }
+    ensures capacity { vec_capacity out.old ≤ vec_capacity out.new }
 {
     for number in 0..R::LEN {
         write_line(form, number, out)?;
@@ -176,6 +181,7 @@ impl<R: Rank> Form<R> {
     pub fn write_table(&self, out: &mut Vec<u8>) -> Result<(), NoMemory>
         ensures ok { OnOk result (out.new.items ≡ out.old.items ++ table_text R.R (form_table R.R self.now)) }
         ensures err { OnErr result (out.new.items ≡ out.old.items) }
+        ensures capacity { vec_capacity out.old ≤ vec_capacity out.new }
     {
         let start = out.len();
         let written = write_lines(self, out);

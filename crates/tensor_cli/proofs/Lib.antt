@@ -1,10 +1,10 @@
 mod LineLemmas
 mod LineAnswers
 mod StageUnique
-mod FormRows
+mod OpenLines
+mod SymbolStops
+mod KindAnswers
 mod AnswerLemmas
 mod Cuts
 mod Progress
 mod Exits
-pub mod GroupOfTwo
-mod Screens

@@ -1,4 +1,7 @@
 -- A line has at most one refusal and one answer.
+--   as_defined      a refusal of this stage that has a word of the language is one by the definition
+--   none_refused, none_over    accepted groups, and a rank up to 6, aren't refused
+--   one_refusal, one_answer    the two laws
 use Rattle.std.proofs.Common.{inl, inr, ℕ, ◌≤◌, List, [], ◌∷◌, length, refl, sym, ◌∙◌, ap, subst, arith}
 use Rattle.std.specs.Prelude.{Option, Some, None}
 use Rattle.tensor_defs.specs.Group.{IsAccepted}
@@ -14,21 +17,21 @@ use Rattle.tensor_cli.specs.Stage.StageWord.{Refused, Unbuilt}
 use Rattle.tensor_cli.specs.Laws.{OneStageRefusal, OneStageAnswer}
 
 -- a refusal of the language is one by the definition
-as_defined : (line : List ℕ) (w : RefusalWord) (c : ℕ) → StageRefuses line (Refused w) c → Refuses line w c
+pub as_defined : (line : List ℕ) (w : RefusalWord) (c : ℕ) → StageRefuses line (Refused w) c → Refuses line w c
 as_defined line Long c r = r
 as_defined line Syntax c r = r
 as_defined line Primes c r = r
 as_defined line Rank c r = r
-as_defined line Shape c r = absurd r
-as_defined line (NotSub k) c r = absurd r
-as_defined line TooLarge c r = absurd r
+as_defined line Shape c r = r.0
+as_defined line (NotSub k) c r = r.0
+as_defined line TooLarge c r = r.0
 
-none_refused : (gs : List GroupAt) (c : ℕ) → Each (λ g. IsAccepted g.symbol) gs → FirstRefused gs c → ⊥
+pub none_refused : (gs : List GroupAt) (c : ℕ) → Each (λ g. IsAccepted g.symbol) gs → FirstRefused gs c → ⊥
 none_refused [] c e f = f
 none_refused (g ∷ gs) c e (inl f) = f.0 e.0
 none_refused (g ∷ gs) c e (inr f) = none_refused gs c e.1 f.1
 
-none_over : (o : Option JahnAt) (c : ℕ) → InRank o → OverRank o c → ⊥
+pub none_over : (o : Option JahnAt) (c : ℕ) → InRank o → OverRank o c → ⊥
 none_over None c i o = o
 none_over (Some j) c i o = omega (arith, i, o.0)
 
@@ -43,9 +46,9 @@ only_unbuilt line Primes c short u r =
 only_unbuilt line Rank c short u r =
     none_over (jahn_of u.request) c u.in_rank
     ((subst (λ q. RefusesRequest q Rank c) (one_request_spelled line r.1 u.request r.2 u.spelled) r.3).1)
-only_unbuilt line Shape c short u r = r
-only_unbuilt line (NotSub k) c short u r = r
-only_unbuilt line TooLarge c short u r = r
+only_unbuilt line Shape c short u r = r.1 u
+only_unbuilt line (NotSub k) c short u r = r.1 u
+only_unbuilt line TooLarge c short u r = r.1 u
 
 pub one_refusal : OneStageRefusal
 one_refusal line (Refused v) (Refused w) c d p q =

@@ -1,10 +1,9 @@
 pub mod Stage
 pub mod Laws
 pub mod Words
-pub mod Forms
+pub mod Asked
 pub mod Reads
 pub mod Outcomes
 pub mod Stops
 pub mod Runs
-pub mod Screening
 pub mod Ends

@@ -1,10 +1,11 @@
--- What this stage of the program answers: the line form 2 V and the elements of groups, and no other request yet. Every
--- line is read, and refused where it is no request, where a group isn't accepted, or where a rank is above 6.
+-- What this stage of the program answers: the component tables of groups of signed permutation matrices, whether two such
+-- groups admit the same tensors, the elements of groups, domain states and pair classes. Every line is read, and refused
+-- where it is no request, where a group isn't accepted, or where a rank is above 6.
 --   StageWord       a word of a refusal: one of the seven, or unbuilt for a request that is not answered yet
 --   stage_refusal_text    the text of a refusal
 --   IsBuilt         the request is one that this stage answers
 --   IsUnbuilt       the line spells a request with accepted groups and a rank up to 6 that isn't built
---   StageRefuses    the first refusal that applies to a line, and its column
+--   StageRefuses    the first refusal that applies to a line, and its column; unbuilt stands behind rank
 --   IsStageRefused  some refusal applies
 --   StageAnswer     the bytes are the answer of a line of a number: nothing for an empty line, the text of its refusal,
 --                   or its answer as the definition of an answer has it
@@ -12,11 +13,13 @@
 -- Source: this project's own.
 use Rattle.std.specs.Prelude.{◌≡◌, ◌⊎◌, ℕ, ◌≤◌, List, [], ◌∷◌, length, codes}
 use Rattle.std.specs.Fmt.{decimal}
+use Rattle.tensor_defs.specs.Frames.{AllOf, IsPlain}
+use Rattle.tensor_defs.specs.Group.{InGroup}
 use Rattle.text_defs.specs.AnswerTexts.{line_of}
 use Rattle.text_defs.specs.Refusals.{RefusalWord, Refuses, refusal_text, AreAccepted, InRank, jahn_of}
 use Rattle.text_defs.specs.Refusals.RefusalWord.{Long, Syntax, Primes, Rank}
 use Rattle.text_defs.specs.Requests.{Request, SpellsRequest}
-use Rattle.text_defs.specs.Requests.Request.{Form, Group}
+use Rattle.text_defs.specs.Requests.Request.{Form, Group, Voigt, States, Pairs, Differ, Same}
 use Rattle.text_defs.specs.Answers.{IsAnswer}
 
 pub data StageWord : Type 0 where
@@ -28,24 +31,28 @@ stage_refusal_text number column (Refused word) = refusal_text number column wor
 stage_refusal_text number column Unbuilt =
     line_of (codes "error" ∷ decimal number ∷ decimal column ∷ codes "unbuilt" ∷ [])
 
-abbrev pub IsBuilt : List ℕ → Request → Type 0
-IsBuilt line (Group g) = Unit {0}
-IsBuilt line (Form g j) = line ≡ codes "form 2 V"
-IsBuilt line request = ⊥
+abbrev pub IsBuilt : Request → Type 0
+IsBuilt (Form g j) = AllOf (InGroup g.symbol) IsPlain
+IsBuilt (Group g) = Unit {0}
+IsBuilt (Voigt g j w) = ⊥
+IsBuilt (States g f) = Unit {0}
+IsBuilt (Pairs g f) = Unit {0}
+IsBuilt (Differ g f j) = ⊥
+IsBuilt (Same g h j) = AllOf (InGroup g.symbol) IsPlain × AllOf (InGroup h.symbol) IsPlain
 
 pub record IsUnbuilt (line : List ℕ) : Type 0 where
   pub request : Request
   pub spelled : SpellsRequest line request
   pub accepted : AreAccepted request
   pub in_rank : InRank (jahn_of request)
-  pub other : IsBuilt line request → ⊥
+  pub other : IsBuilt request → ⊥
 
 abbrev pub StageRefuses : List ℕ → StageWord → ℕ → Type 0
 StageRefuses line (Refused Long) column = Refuses line Long column
 StageRefuses line (Refused Syntax) column = Refuses line Syntax column
 StageRefuses line (Refused Primes) column = Refuses line Primes column
 StageRefuses line (Refused Rank) column = Refuses line Rank column
-StageRefuses line (Refused word) column = ⊥
+StageRefuses line (Refused word) column = Refuses line word column × (IsUnbuilt line → ⊥)
 StageRefuses line Unbuilt column = (length line ≤ 1000) × IsUnbuilt line × (column ≡ 1)
 
 abbrev pub IsStageRefused : List ℕ → Type 0

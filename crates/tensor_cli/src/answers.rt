@@ -1,23 +1,17 @@
 //! The answer of a line.
 ghost use Rattle.std.specs.Prelude.{◌≡◌, ◌↔◌, ◌+◌, ◌<◌, ◌≤◌, ◌++◌, [], List, ℕ, codes, length, IfOk, OnOk, OnErr, IsOk, IsTrue, MatchBool, vec_len, vec_capacity};
 ghost use Rattle.text_defs.specs.Requests as defs;
-ghost use Rattle.text_defs.specs.Requests.{GroupAt, SpellsRequest};
-ghost use Rattle.text_defs.specs.Requests.Request.{Group};
-ghost use Rattle.request_lines.specs.Readings.{Tells, TellsGroup};
+ghost use Rattle.text_defs.specs.Requests.{SpellsRequest};
+ghost use Rattle.request_lines.specs.Readings.{Tells};
 ghost use Rattle.tensor_cli.specs.Ends.{Ends};
 ghost use Rattle.tensor_cli.specs.Reads.{Stands};
-ghost use Rattle.tensor_cli.specs.Screening.{AsksOther};
 ghost use Rattle.tensor_cli.specs.Stage.{StageAnswer, IsStageRefused, IsQuick, stage_refusal_text};
 ghost use Rattle.tensor_cli.specs.Words.{word_of};
 
-use crate::elements::append_elements;
-use crate::forms::write_vector_form;
-use crate::memory::{NoMemory, append};
-use crate::refusals::{LONGEST, Refusal, Word};
-use crate::screening::{Parts, parts_of, screen};
-use crate::vectors::free_components;
-use magnetic_groups::{GroupFault, build_group};
-use request_lines::{Named, Request, read_request};
+use crate::refusals::{LONGEST, NoAnswer, Refusal, Word};
+use crate::requests::try_answer;
+use answer_writers::{NoMemory, append_to};
+use request_lines::{Request, read_request};
 use std::alloc::Global;
 
 /// How the answer of a line ended.
@@ -32,10 +26,11 @@ pub enum LineEnd {
 fn refuse(number: u64, refusal: Refusal, out: &mut Vec<u8>) -> Result<(), NoMemory>
     ensures ok { OnOk result (out.new.items ≡ out.old.items ++ stage_refusal_text number refusal.column (word_of refusal.word)) }
     ensures err { OnErr result (out.new.items ≡ out.old.items) }
-    ensures room { vec_len out.old + 64 ≤ vec_capacity out.old → IsOk result }
+    ensures room { vec_len out.old + 96 ≤ vec_capacity out.old → IsOk result }
     ensures capacity { vec_capacity out.old ≤ vec_capacity out.new }
 {
-    append(out, refusal.text(number).as_slice())
+    let text = refusal.text(*out.allocator(), number);
+    append_to(out, text.as_slice())
 }
 
 /// Appends the refusal of a line of more than 1000 bytes. After `NoMemory` the list is as before.
@@ -43,80 +38,10 @@ pub fn refuse_long(number: u64, out: &mut Vec<u8>) -> Result<(), NoMemory>
     ensures ok { OnOk result ((answer : List ℕ) × (out.new.items ≡ out.old.items ++ answer)
         × ((line : List ℕ) → 1000 < length line → StageAnswer number line answer)) }
     ensures err { OnErr result (out.new.items ≡ out.old.items) }
-    ensures room { vec_len out.old + 64 ≤ vec_capacity out.old → IsOk result }
+    ensures room { vec_len out.old + 96 ≤ vec_capacity out.old → IsOk result }
     ensures capacity { vec_capacity out.old ≤ vec_capacity out.new }
 {
     refuse(number, Refusal::LONG, out)
-}
-
-/// Appends the answer to a request for the elements of a group, or the refusal of its symbol. After `NoMemory` the list is
-/// as before.
-fn answer_elements(
-    alloc: Global,
-    number: u64,
-    line: &[u8],
-    named: &Named,
-    out: &mut Vec<u8>,
-) -> Result<LineEnd, NoMemory>
-    requires some { 0 < length line.now }
-    requires short { length line.now ≤ 1000 }
-    requires near { named.now.start ≤ 1000 }
-    requires asked { (g : GroupAt) × SpellsRequest line.now (Group g) × TellsGroup named.now g }
-    ensures ok { IfOk result (λ end. Ends number line.now out.old.items out.new.items end) }
-    ensures err { OnErr result (out.new.items ≡ out.old.items) }
-    ensures capacity { vec_capacity out.old ≤ vec_capacity out.new }
-{
-    match build_group(alloc, &named.tree) {
-        Ok(group) => {
-            append_elements(alloc, &named.tree, &group, out)?;
-            Ok(LineEnd::Answered)
-        }
-        Err(GroupFault::Primes) => {
-            refuse(number, Refusal::at(Word::Primes, named.start), out)?;
-            Ok(LineEnd::Refused)
-        }
-        Err(GroupFault::NoMemory) => Err(NoMemory),
-    }
-}
-
-/// Whether the line is `form 2 V`.
-fn is_vector(line: &[u8]) -> bool
-    ensures { MatchBool result (line.now ≡ codes "form 2 V") (line.now ≡ codes "form 2 V" → ⊥) }
-{
-    line == b"form 2 V".as_slice()
-}
-
-/// Appends the answer to another request, or its refusal. After `NoMemory` the list is as before.
-fn answer_other(
-    alloc: Global,
-    number: u64,
-    line: &[u8],
-    parts: &Parts,
-    out: &mut Vec<u8>,
-) -> Result<LineEnd, NoMemory>
-    requires some { 0 < length line.now }
-    requires short { length line.now ≤ 1000 }
-    requires asked { AsksOther line.now parts.now }
-    ensures ok { IfOk result (λ end. Ends number line.now out.old.items out.new.items end) }
-    ensures err { OnErr result (out.new.items ≡ out.old.items) }
-    ensures capacity { vec_capacity out.old ≤ vec_capacity out.new }
-{
-    match screen(alloc, line, parts)? {
-        Some(refusal) => {
-            refuse(number, refusal, out)?;
-            Ok(LineEnd::Refused)
-        }
-        None => {
-            if is_vector(line) {
-                let free = free_components(alloc)?;
-                write_vector_form(free, out)?;
-                Ok(LineEnd::Answered)
-            } else {
-                refuse(number, Refusal::UNBUILT, out)?;
-                Ok(LineEnd::Refused)
-            }
-        }
-    }
 }
 
 /// Appends the answer to a request that was read from the line, or its refusal. After `NoMemory` the list is as before.
@@ -134,9 +59,13 @@ fn answer_request(
     ensures err { OnErr result (out.new.items ≡ out.old.items) }
     ensures capacity { vec_capacity out.old ≤ vec_capacity out.new }
 {
-    match request {
-        Request::Group { g } => answer_elements(alloc, number, line, g, out),
-        _ => answer_other(alloc, number, line, &parts_of(request), out),
+    match try_answer(alloc, line, request, out) {
+        Ok(()) => Ok(LineEnd::Answered),
+        Err(NoAnswer::Refused(refusal)) => {
+            refuse(number, refusal, out)?;
+            Ok(LineEnd::Refused)
+        }
+        Err(NoAnswer::NoMemory) => Err(NoMemory),
     }
 }
 
@@ -155,7 +84,7 @@ pub fn answer_line(
     ensures err { OnErr result (out.new.items ≡ out.old.items) }
 
     // With room for a refusal, a line that is empty, long or no request takes no memory.
-    ensures room { vec_len out.old + 64 ≤ vec_capacity out.old → IsQuick line.now → IsOk result }
+    ensures room { vec_len out.old + 96 ≤ vec_capacity out.old → IsQuick line.now → IsOk result }
     ensures capacity { vec_capacity out.old ≤ vec_capacity out.new }
 {
     if line.is_empty() {
@@ -184,11 +113,11 @@ pub fn make_answer(
     out: &mut Vec<u8>,
 ) -> Result<bool, NoMemory>
     requires short { length line.now ≤ 1001 }
-    requires room { 64 ≤ vec_capacity out.old }
+    requires room { 96 ≤ vec_capacity out.old }
     ensures answer { OnOk result ((whole : List ℕ) → Stands is_long line.now whole → StageAnswer number whole out.new.items) }
     ensures refused { IfOk result (λ refused. (whole : List ℕ) → Stands is_long line.now whole → (IsTrue refused ↔ IsStageRefused whole)) }
     ensures memory { OnErr result ((whole : List ℕ) → Stands is_long line.now whole → IsQuick whole → ⊥) }
-    ensures room { 64 ≤ vec_capacity out.new }
+    ensures room { 96 ≤ vec_capacity out.new }
 {
     out.clear();
     if is_long {

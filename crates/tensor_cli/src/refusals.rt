@@ -1,10 +1,14 @@
 //! Refusals of a line.
-ghost use Rattle.std.specs.Prelude.{◌≡◌, ◌+◌, ◌<◌, ◌≤◌, [], length, codes, MatchOption, MatchBool};
-ghost use Rattle.tensor_cli.specs.Stage.{IsBuilt, IsStageRefused, StageRefuses, stage_refusal_text};
+ghost use Rattle.std.specs.Prelude.{◌≡◌, ◌+◌, ◌++◌, ◌<◌, ◌≤◌, [], length, codes};
+ghost use Rattle.smallvec.specs.SmallVec.{HasRoomFor, small_vec_len};
+ghost use Rattle.tensor_cli.specs.Stage.{stage_refusal_text};
 ghost use Rattle.tensor_cli.specs.Words.{spelling, word_of};
 
-use crate::text::ShortText;
+use answer_writers::NoMemory;
+use exact_frac::append;
 use itoa::Buffer;
+use smallvec::SmallVec;
+use std::alloc::Global;
 
 /// The most bytes of a line that is read as a request.
 pub const LONGEST: usize = 1000;
@@ -17,19 +21,31 @@ pub enum Word {
     Primes,
     Rank,
     Unbuilt,
+    /// With the number of the first element of the second group that isn't in the first, from 1.
+    NotSub(usize),
+    TooLarge,
 }
 
 impl Word {
-    /// How the word is written.
-    fn as_str(self) -> &'static str
-        ensures { result.now ≡ spelling self }
+    /// Appends the word as it is written.
+    fn push(self, text: &mut SmallVec<u8, 96>)
+        requires { HasRoomFor text.old 27 }
+        ensures items { text.new.items ≡ text.old.items ++ spelling self }
+        ensures len { small_vec_len text.new ≤ small_vec_len text.old + 27 }
+        ensures capacity { text.new.capacity ≡ text.old.capacity }
     {
         match self {
-            Word::Long => "long",
-            Word::Syntax => "syntax",
-            Word::Primes => "primes",
-            Word::Rank => "rank",
-            Word::Unbuilt => "unbuilt",
+            Word::Long => append(text, b"long"),
+            Word::Syntax => append(text, b"syntax"),
+            Word::Primes => append(text, b"primes"),
+            Word::Rank => append(text, b"rank"),
+            Word::Unbuilt => append(text, b"unbuilt"),
+            Word::NotSub(first) => {
+                let mut buffer = Buffer::new();
+                append(text, b"notsub ");
+                append(text, buffer.format(first).as_bytes());
+            }
+            Word::TooLarge => append(text, b"toolarge"),
         }
     }
 }
@@ -65,20 +81,38 @@ impl Refusal {
         }
     }
 
-    /// The text of the refusal of a line with this number, in a fixed array.
-    pub fn text(self, number: u64) -> ShortText
-        ensures text { result ≡ stage_refusal_text number self.column (word_of self.word) }
-        ensures short { length result ≤ 64 }
+    /// The text of the refusal of a line with this number, without memory.
+    pub fn text(self, alloc: Global, number: u64) -> SmallVec<u8, 96>
+        ensures text { result.items ≡ stage_refusal_text number self.column (word_of self.word) }
+        ensures short { length result.items ≤ 96 }
     {
-        let mut text = ShortText::new();
+        let mut text = SmallVec::new(alloc);
         let mut buffer = Buffer::new();
-        text.push(b"error ");
-        text.push(buffer.format(number).as_bytes());
-        text.push(b" ");
-        text.push(buffer.format(self.column).as_bytes());
-        text.push(b" ");
-        text.push(self.word.as_str().as_bytes());
-        text.push(b"\n");
+        append(&mut text, b"error ");
+        append(&mut text, buffer.format(number).as_bytes());
+        append(&mut text, b" ");
+        append(&mut text, buffer.format(self.column).as_bytes());
+        append(&mut text, b" ");
+        self.word.push(&mut text);
+        append(&mut text, b"\n");
         text
+    }
+}
+
+/// Why a request has no answer.
+#[derive(Clone, Copy, Debug, PartialEq, Eq, Drop)]
+pub enum NoAnswer {
+    Refused(Refusal),
+    NoMemory,
+}
+
+impl From<NoMemory> for NoAnswer {
+    ghost use Rattle.tensor_cli.specs.declared.refusals.NoAnswer.TheVariants.{NoMemory};
+    ghost use Rattle.std.specs.Prelude.{◌≡◌};
+
+    ghost from_gives = { λ _ e. e ≡ NoMemory };
+
+    fn from(_: NoMemory) -> NoAnswer {
+        NoAnswer::NoMemory
     }
 }

@@ -16,7 +16,7 @@ use std::alloc::Global;
 use tensor_ports::{Sink, Source, write_all_of};
 
 /// Room for the text of a refusal.
-const REFUSAL: usize = 64;
+const REFUSAL: usize = 96;
 
 /// Makes the answer of a line, and writes it. Tells whether the line is refused.
 fn write_answer<O: Sink>(
@@ -28,14 +28,14 @@ fn write_answer<O: Sink>(
     sink: &mut O,
 ) -> Result<bool, Stop>
     requires short { length line.now ≤ 1001 }
-    requires room { 64 ≤ vec_capacity out.old }
+    requires room { 96 ≤ vec_capacity out.old }
     ensures ok { IfOk result (λ refused. (answer : List ℕ) × Grows (O.written sink.old) (O.written sink.new) answer
         × ((whole : List ℕ) → Stands is_long line.now whole → StageAnswer number whole answer)
         × ((whole : List ℕ) → Stands is_long line.now whole → (IsTrue refused ↔ IsStageRefused whole))) }
     ensures err { IfErr result (λ stop. StopsAt stop number is_long line.now (O.written sink.old) (O.written sink.new)) }
     ensures later { O.faults sink.old ≤ O.faults sink.new }
     ensures rose { IsErrOf result Stop.Write → Rose (O.faults sink.old) (O.faults sink.new) }
-    ensures room { 64 ≤ vec_capacity out.new }
+    ensures room { 96 ≤ vec_capacity out.new }
 {
     match make_answer(alloc, number, is_long, line, out) {
         Err(_) => Err(Stop::Memory),

@@ -8,7 +8,7 @@ use Rattle.reduced_form.proofs.TextLaws.{all_lines, grown_twice, lines_grown, li
 use Rattle.reduced_form.proofs.writing.write_lines.Goals as goal
 
 pub loop-number-init : goal.loop-number-init
-loop-number-init g c = record { items = lines_start _ c.args.out.now.items }
+loop-number-init g c = record { items = lines_start _ c.args.out.now.items; capacity = omega arith }
 
 pub returns-in_err-write_line-clause-longer : goal.returns-in_err-write_line-clause-longer
 returns-in_err-write_line-clause-longer g c =
@@ -20,6 +20,7 @@ loop-number-preserved g c = record {
       let f : ℕ → List ℕ = λ n. component_line (form_table g.R.Rank.R c.args.form.now) (index_of g.R.Rank.R n) in
       lines_grown f c.loop-number.number c.args.out.now.items c.loop-number.out.items _ c.loop-number.invariant.items
       c.in_ok-write_line.ensures.ok;
+  capacity = omega (arith, c.loop-number.invariant.capacity, c.in_ok-write_line.ensures.capacity);
 }
 
 pub returns-clause-ok : goal.returns-clause-ok

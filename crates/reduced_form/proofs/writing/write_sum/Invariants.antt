@@ -1,4 +1,4 @@
-use Rattle.std.proofs.Common.{◌≡◌, ◌++◌}
+use Rattle.std.proofs.Common.{◌≡◌, ◌++◌, ◌≤◌, vec_capacity}
 use Rattle.std.specs.Prelude.{take}
 use Rattle.reduced_form.specs.Texts.{named_terms, sum_from}
 use Rattle.reduced_form.proofs.writing.write_sum.Given as goal
@@ -6,4 +6,5 @@ use Rattle.reduced_form.proofs.writing.write_sum.Given as goal
 abbrev pub invariant-loop-place : goal.invariant-loop-place
 invariant-loop-place g l = record {
   items : l.out.items ≡ l.initial.out.items ++ sum_from 0 (named_terms g.R.Rank.R l.form (take l.place l.row));
+  capacity : vec_capacity l.initial.out ≤ vec_capacity l.out;
 }

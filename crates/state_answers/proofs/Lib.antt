@@ -1,0 +1,3 @@
+mod ClassTexts
+mod Outside
+mod SameSets

@@ -1,0 +1,11 @@
+//! The answers to two kinds of request: the component table of a tensor, and whether two groups admit the same tensors.
+#![tactic(auto)]
+
+mod forms;
+mod room;
+mod sameness;
+mod solving;
+
+pub use forms::answer_form;
+pub use reduced_form::SolveFault;
+pub use sameness::answer_same;
