@@ -1,0 +1,9 @@
+pub mod Signs
+pub mod Links
+pub mod OneCarrier
+pub mod Symmetry
+pub mod Diagonals
+pub mod Turns
+pub mod Carrying
+pub mod UsedWords
+pub mod Invariance

@@ -5,7 +5,7 @@
 --   RowsDecideInvariance    under a framed group that isn't all plain, the invariant tensors are exactly these lists
 --   OneElimination  the unknowns and the rows are told by the symbol, the group and the order
 -- Source: a rotation about z multiplies the sum of a word by a unit number; International Tables D 1.1 for invariance.
-use Rattle.std.specs.Prelude.{◌≡◌, ℕ, Bool, List, [], length, filter, get_or, Contains, ◌↔◌, Some, None}
+use Rattle.std.specs.Prelude.{◌≡◌, Bool, List, [], length, filter, get_or, Contains, ◌↔◌, Some, None}
 use Rattle.tensor_defs.specs.Elimination.{AreRepresentatives, AreUnknowns, Carrier, rows_of}
 use Rattle.tensor_defs.specs.Frames.{AllOf, IsFramed, IsPlain}
 use Rattle.tensor_defs.specs.Jahn.{JahnSymbol, IsInvariant, rank}

@@ -107,10 +107,10 @@ module _
   unit_vanishing r d h v =
       spread_is (unit r) d h ∙ spread_vanishing (vanishes_at es) (sign_at es) (first_at es) (unit r) d v
 
-  zero_by_table : (c : ℕ) → c < 3 ^ rank j → vanishes_at es c ≡ true → IsZeroAt (IsInvariant j (In hs)) (index_of (rank j) c)
+  pub zero_by_table : (c : ℕ) → c < 3 ^ rank j → vanishes_at es c ≡ true → IsZeroAt (IsInvariant j (In hs)) (index_of (rank j) c)
   zero_by_table c h v = record { zero = λ t inv. table.forced c h v (numbered (rank j) t) (group_kept t inv) }
 
-  not_zero_by_table : (c : ℕ) → c < 3 ^ rank j → vanishes_at es c ≡ false →
+  pub not_zero_by_table : (c : ℕ) → c < 3 ^ rank j → vanishes_at es c ≡ false →
       IsZeroAt (IsInvariant j (In hs)) (index_of (rank j) c) → ⊥
   not_zero_by_table c h v z =
       sign_not_zero (sign_at es c)
@@ -122,7 +122,7 @@ module _
     same : first_at es (component_number d) ≡ first_at es c
     opened : vanishes_at es (component_number d) ≡ false
 
-  turned_class : (c : ℕ) → c < 3 ^ rank j → vanishes_at es c ≡ false → (d : ℕ) → d < 3 ^ rank j → (s : Sign) →
+  pub turned_class : (c : ℕ) → c < 3 ^ rank j → vanishes_at es c ≡ false → (d : ℕ) → d < 3 ^ rank j → (s : Sign) →
       ((t : Tensor) → IsInvariant j (In hs) t → numbered (rank j) t c ≡ signed s (numbered (rank j) t d)) →
       (first_at es d ≡ first_at es c) × (vanishes_at es d ≡ false)
   turned_class c h v d l s told =
@@ -218,7 +218,7 @@ module _
             subst (λ x. Carried (GroupStep j (In hs)) (index_of (rank j) c) (index_of (rank j) x)) (sym (at_second (exchange_moves (rank j) own) (op_moves (rank j) ps) k c p)) turned
       ]
 
-  path_carried : {c d : ℕ} {u : Sign} → Reaches (all_moves j ps) c d u → c < 3 ^ rank j →
+  pub path_carried : {c d : ℕ} {u : Sign} → Reaches (all_moves j ps) c d u → c < 3 ^ rank j →
       Carried (GroupStep j (In hs)) (index_of (rank j) c) (index_of (rank j) d)
   path_carried stay h = rests
   path_carried {c} {d} (move k is path e) h = carried_join (step k c is h) (path_carried path (back.stays k c is h))

@@ -6,3 +6,7 @@ pub mod ReadingLaws
 pub mod InvariantLaws
 pub mod ClassLaws
 pub mod MakingLaws
+pub mod GatherLaws
+pub mod WordLaws
+pub mod DiagonalLaws
+pub mod RepresentativeLaws

@@ -117,7 +117,7 @@ module _ {m : Marks} {g : Operation} {p : PlainOp} (h : StandsFor m g p) where
   list_signs_of [] = refl
   list_signs_of (i ∷ is) = ap (times (entry_sign p (axis_place i))) (list_signs_of is) ∙ sym (signs_of-cons (λ q. axis_place (nth (i ∷ is) q)) (length is))
 
-  sign_number : (r c : ℕ) → c < 3 ^ r → times p.whole (list_signs p (index_of r c)) ≡ op_sign r p c
+  pub sign_number : (r c : ℕ) → c < 3 ^ r → times p.whole (list_signs p (index_of r c)) ≡ op_sign r p c
   sign_number r c below = ap (times p.whole) (
       list_signs_of (index_of r c) ∙ ap (signs_of p (λ q. axis_place (nth (index_of r c) q))) (length-index_of r c)
       ∙ signs_of-same (λ q. axis_place (nth (index_of r c) q)) (digit_of r c) r (λ q l. sym (digit_index r c below q l)))

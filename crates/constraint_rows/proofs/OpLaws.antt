@@ -131,7 +131,7 @@ ops_reversible n r ops size h = record {
       (path.0, subst (λ d. Reaches (op_moves r ops) (op_carried r (op_at ops k) c) d path.0) (again_home r (op_at ops k) (h.each k is) c (rw size at below)) path.1);
 }
 
-power_small : (k : ℕ) → k ≤ 6 → 3 ^ k ≤ 729
+pub power_small : (k : ℕ) → k ≤ 6 → 3 ^ k ≤ 729
 power_small zero h = lit≤ tt
 power_small (suc zero) h = lit≤ tt
 power_small (suc (suc zero)) h = lit≤ tt

@@ -2,3 +2,5 @@ pub mod PlainOps
 pub mod Reading
 pub mod Classes
 pub mod WordRows
+pub mod Marking
+pub mod Gathering

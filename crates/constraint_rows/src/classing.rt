@@ -2,7 +2,7 @@ ghost use Rattle.std.specs.Prelude.{◌≡◌, ℕ, ◌<◌, IfOk, length, Conta
 ghost use Rattle.tensor_defs.specs.Frames.{AllOf, IsPlain};
 ghost use Rattle.tensor_defs.specs.Jahn.{IsInvariant, JahnSymbol};
 ghost use Rattle.magnetic_groups.specs.Sets.{In};
-ghost use Rattle.sign_moves.specs.Firsts.{IsFirstTable};
+ghost use Rattle.sign_moves.specs.Firsts.{AreSettled, IsFirstTable};
 ghost use Rattle.tensor_rank.specs.Carried.{TellsClass};
 ghost use Rattle.tensor_rank.specs.Flags.{marks_of};
 ghost use Rattle.tensor_rank.specs.Orders.{before_at, before_of};
@@ -54,7 +54,7 @@ fn plain_ops(alloc: Global, operations: &[Op], flags: Flags) -> Result<Vec<Plain
 }
 
 /// The first component, in an order, to which matrices and exchanges of blocks carry each other one.
-fn plain_table<R: Rank>(
+pub(crate) fn plain_table<R: Rank>(
     alloc: Global,
     exchanges: &[Exchange],
     ops: &[PlainOp],
@@ -90,6 +90,17 @@ pub fn plain_classes<R: Rank>(
 }
 
 impl<R: Rank> Classes<R> {
+    /// The classes of a table of settled entries.
+    pub(crate) fn of_table(table: Vec<Entry>) -> Classes<R>
+        requires { AreSettled R.LEN table.items }
+        ensures { result ≡ table.items }
+    {
+        Classes {
+            table,
+            of: PhantomData,
+        }
+    }
+
     /// The first component, in the order, to which group elements and exchanges of blocks carry c, and the sign
     /// between the two in each invariant tensor. None exactly where each invariant tensor is zero at c.
     pub fn of(&self, c: Comp<R>) -> Option<(Comp<R>, Sign)>

@@ -3,16 +3,21 @@
 //! Tables for Crystallography D 1.1.
 #![tactic(auto)]
 
+mod axis;
 mod classing;
+mod gathering;
 mod memory;
 mod op_moves;
 mod ops;
 mod reading;
 mod rows;
+mod words;
 
+pub use axis::{axis_classes, killed_by_diagonal};
 pub use classing::{Classes, plain_classes};
 pub use memory::NoMemory;
 pub use rows::{Part, Row};
+pub use words::{rows_of_words, word_rows};
 
 #[cfg(test)]
 mod tests;

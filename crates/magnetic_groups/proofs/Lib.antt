@@ -6,3 +6,5 @@ pub mod Cosets
 pub mod Members
 pub mod SymbolFrames
 pub mod Meeting
+pub mod Doubling
+pub mod Taking

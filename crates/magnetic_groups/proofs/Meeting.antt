@@ -1,19 +1,25 @@
 -- The members of a group that stay in it when an operation carries them.
-use Rattle.std.proofs.Common.{◌≡◌, ℕ, ◌+◌, ◌<◌, ◌≤◌, Bool, true, false, List, [], ◌∷◌, length, refl, ap, sym, ◌∙◌, arith, subst, ◌⊎◌, inl, inr}
-use Rattle.std.specs.Prelude.{Contains, ◌↔◌, IsTrue, slice_index_or}
+use Rattle.std.proofs.Common.{◌≡◌, ℕ, ◌+◌, ◌<◌, ◌≤◌, Bool, true, false, List, [], ◌∷◌, length, refl, ap, sym, ◌∙◌, arith, subst, ◌⊎◌, inl, inr, lit<}
+use Rattle.std.specs.Prelude.{Contains, ◌↔◌, IsTrue, slice_index_or, set, replicate, Some}
+use Rattle.std.proofs.lemmas.List.{length-set}
 use Rattle.tensor_defs.specs.Operation.{Operation, IsProduct, identity}
 use Rattle.tensor_defs.specs.OperationOrder.{comes_before}
-use Rattle.tensor_defs.specs.Lists.{Each, IsRising, IsListing}
-use Rattle.tensor_defs.specs.Group.{Generated}
-use Rattle.tensor_defs.specs.Frames.{IsPlain, IsHexagonal, AllOf, HaveCommonFrame}
-use Rattle.tensor_defs.specs.States.{InPairGroup, InTwinningGroup}
-use Rattle.tensor_laws.proofs.Products.{product_unique, generated_within}
+use Rattle.tensor_defs.specs.Lists.{IsRising, IsListing}
+use Rattle.tensor_defs.specs.Frames.{IsPlain, IsHexagonal, HaveCommonFrame}
+use Rattle.tensor_defs.specs.States.{InPairGroup}
+use Rattle.tensor_laws.proofs.Products.{product_unique}
 use Rattle.tensor_laws.proofs.Associativity.{product_assoc, product_assoc_back}
+use Rattle.op_matrix.specs.Table.{nth_operation, place}
+use Rattle.op_matrix.proofs.Order.{placed}
 use Rattle.op_matrix.proofs.Listed.{plain_one, hex_one, OneTimes}
-use Rattle.magnetic_groups.specs.Sets.{FitsFrame, In, IsGroup}
-use Rattle.magnetic_groups.proofs.Spans.{common_product}
-use Rattle.magnetic_groups.proofs.Reaching.{nat_split}
-use Rattle.magnetic_groups.proofs.Cosets.{group_one, group_product}
+use Rattle.magnetic_groups.specs.Marks.{mark_at, marked_below, Reached}
+use Rattle.magnetic_groups.specs.Sets.{FitsFrame, HaveFrame, In, IsGroup}
+use Rattle.magnetic_groups.proofs.Inverses.{closed_inverse}
+use Rattle.magnetic_groups.proofs.Marked.{contains_told, contains_of, marked_rising, marked_first}
+use Rattle.magnetic_groups.proofs.Members.{member_framed}
+use Rattle.magnetic_groups.proofs.Spans.{common_product, place_is_zero, first_is}
+use Rattle.magnetic_groups.proofs.Reaching.{nat_split, set_told, set_kept, set_new, no_mark}
+use Rattle.magnetic_groups.proofs.Cosets.{group_one}
 
 fits_one : (xs : List Operation) (g : Operation) → FitsFrame xs g → OneTimes g
 fits_one xs g (inl f) = plain_one g f.0
@@ -22,11 +28,6 @@ fits_one xs g (inr f) = hex_one g f.0
 fits_common : (xs : List Operation) (g k : Operation) → FitsFrame xs g → Contains xs k → HaveCommonFrame k g
 fits_common xs g k (inl f) c = inl (f.1 k c, f.0)
 fits_common xs g k (inr f) c = inr (f.1 k c, f.0)
-
--- a group in the other's frame
-pub fits_below : (xs ys : List Operation) (g k : Operation) → FitsFrame xs g → ((s : Operation) → Contains ys s → Contains xs s) → Contains xs k → FitsFrame ys k
-fits_below xs ys g k (inl f) w c = inl (f.1 k c, λ s h. f.1 s (w s h))
-fits_below xs ys g k (inr f) w c = inr (f.1 k c, λ s h. f.1 s (w s h))
 
 -- the products that carry an element
 pub inverse_common : (xs : List Operation) (g k v : Operation) → FitsFrame xs g → (IsPlain g → IsPlain v) → (IsHexagonal g → IsHexagonal v) → Contains xs k → HaveCommonFrame v k
@@ -68,63 +69,86 @@ module _ (xs : List Operation) (g : Operation) (i : IsGroup xs) (fits : FitsFram
           let d : IsProduct identity f y = product_assoc_back v g f identity y m ahead r a in
           subst (Contains xs) (product_unique identity f f y (group_one xs f i cf).0 d) cf
 
-  -- what is met so far
-  pub record IsMeeting (n : ℕ) (met : List Operation) : Type 0 where
-    pub rising : IsRising comes_before met
-    pub inside : (k : Operation) → Contains met k → InPairGroup (In xs) g k
-    pub held : (q : ℕ) (d : Operation) → q < n → InPairGroup (In xs) g (slice_index_or xs q d) → Contains met (slice_index_or xs q d)
+  -- the elements before place n that are met are marked
+  pub record IsMeeting (n : ℕ) (m : List Bool) : Type 0 where
+    pub sized : length m ≡ 128
+    pub inside : (k : ℕ) → mark_at m k ≡ true → InPairGroup (In xs) g (nth_operation k)
+    pub held : (q : ℕ) (d : Operation) → q < n → InPairGroup (In xs) g (slice_index_or xs q d) → mark_at m (place (slice_index_or xs q d)) ≡ true
 
-  pub meeting_none : (met : List Operation) → IsListing comes_before (λ k. k ≡ identity) met → IsMeeting 0 met
-  meeting_none met l = record {
-    rising = l.rising;
-    inside = λ k c. subst (InPairGroup (In xs) g) (sym ((l.members k).0 c)) pair_one;
+  pub meeting_none : IsMeeting 0 (replicate 128 false)
+  meeting_none = record {
+    sized = refl;
+    inside = λ k e. absurd (no_mark 128 k e);
     held = λ q d h. absurd (omega arith);
   }
 
-  pub meeting_within : (n : ℕ) (met : List Operation) → IsMeeting n met → (k : Operation) → Contains met k → Contains xs k
-  meeting_within n met m k c = (m.inside k c).0
+  held_next : (m m' : List Bool) (n : ℕ) (k : Operation) → ((j : ℕ) → mark_at m j ≡ true → mark_at m' j ≡ true) → IsMeeting n m → ((d : Operation) → slice_index_or xs n d ≡ k) → (InPairGroup (In xs) g k → mark_at m' (place k) ≡ true) → (q : ℕ) (d : Operation) → q < n + 1 → InPairGroup (In xs) g (slice_index_or xs q d) → mark_at m' (place (slice_index_or xs q d)) ≡ true
+  held_next m m' n k w i at t q d h p = by (nat_split q n)
+    where
+      by : (q < n) ⊎ (n ≤ q) → mark_at m' (place (slice_index_or xs q d)) ≡ true
+      by (inl a) = w (place (slice_index_or xs q d)) (i.held q d a p)
+      by (inr a) =
+          let s : q ≡ n = omega arith in
+          let e : slice_index_or xs q d ≡ k = ap (λ z. slice_index_or xs z d) s ∙ at d in
+          subst (λ x. mark_at m' (place x) ≡ true) (sym e) (t (subst (InPairGroup (In xs) g) e p))
 
-  pub meeting_skip : (n : ℕ) (met met' : List Operation) (k : Operation) (b : Bool) → IsMeeting n met → met' ≡ met → ((d : Operation) → slice_index_or xs n d ≡ k) → (IsTrue b ↔ InPairGroup (In xs) g k) → b ≡ false → IsMeeting (n + 1) met'
-  meeting_skip n met met' k b m e at t f = subst (IsMeeting (n + 1)) (sym e) (record {
-    rising = m.rising;
-    inside = m.inside;
-    held = λ q d h p. by q d h p (nat_split q n);
-  })
+  pub meeting_skip : (n : ℕ) (m : List Bool) (k : Operation) (b : Bool) → IsMeeting n m → ((d : Operation) → slice_index_or xs n d ≡ k) → (IsTrue b ↔ InPairGroup (In xs) g k) → b ≡ false → IsMeeting (n + 1) m
+  meeting_skip n m k b i at t f = record {
+    sized = i.sized;
+    inside = i.inside;
+    held = held_next m m n k (λ j e. e) i at (λ p. absurd (false_true (sym f ∙ t.1 p)));
+  }
     where
       false_true : false ≡ true → ⊥
       false_true e = cc
 
-      by : (q : ℕ) (d : Operation) → q < n + 1 → InPairGroup (In xs) g (slice_index_or xs q d) → (q < n) ⊎ (n ≤ q) → Contains met (slice_index_or xs q d)
-      by q d h p (inl a) = m.held q d a p
-      by q d h p (inr a) =
-          let s : q ≡ n = omega arith in
-          absurd (false_true (sym f ∙ t.1 (subst (InPairGroup (In xs) g) (ap (λ z. slice_index_or xs z d) s ∙ at d) p)))
-
-  pub meeting_more : (n : ℕ) (met met' : List Operation) (k : Operation) (b : Bool) → IsMeeting n met → IsListing comes_before (InTwinningGroup (In met) k) met' → ((d : Operation) → slice_index_or xs n d ≡ k) → (IsTrue b ↔ InPairGroup (In xs) g k) → b ≡ true → IsMeeting (n + 1) met'
-  meeting_more n met met' k b m l at t f = record {
-    rising = l.rising;
-    inside = λ s c. generated_within (λ s. Contains met s ⊎ (s ≡ k)) (InPairGroup (In xs) g) pair_one (λ s r p q. pair_product s r (member s p) q) s ((l.members s).0 c);
-    held = λ q d h p. by q d h p (nat_split q n);
+  pub meeting_more : (n l : ℕ) (m : List Bool) (k : Operation) (b : Bool) → IsMeeting n m → ((d : Operation) → slice_index_or xs n d ≡ k) → (IsTrue b ↔ InPairGroup (In xs) g k) → b ≡ true → l ≡ place k → l < 128 → k ≡ nth_operation l → IsMeeting (n + 1) (set m l true)
+  meeting_more n l m k b i at t f e h w = record {
+    sized = length-set m l true ∙ i.sized;
+    inside = λ j a. elim (set_told m l j a) [
+      | inl o ↦ subst (InPairGroup (In xs) g) (w ∙ ap nth_operation (sym o)) (t.0 f)
+      | inr o ↦ i.inside j o
+    ];
+    held = held_next m (set m l true) n k (set_kept m l) i at (λ p. subst (λ x. mark_at (set m l true) x ≡ true) e (set_new m l (rw i.sized h)));
   }
-    where
-      here : InPairGroup (In xs) g k
-      here = t.0 f
 
-      member : (s : Operation) → Contains met s ⊎ (s ≡ k) → InPairGroup (In xs) g s
-      member s (inl c) = m.inside s c
-      member s (inr e) = subst (InPairGroup (In xs) g) (sym e) here
+  module _ (m : List Bool) (n : ℕ) (met : IsMeeting n m) (all : length xs ≤ n) where
+    pub met_members : (k : Operation) → Contains (marked_below 128 m) k ↔ InPairGroup (In xs) g k
+    met_members k = (forth, back)
+      where
+        forth : Contains (marked_below 128 m) k → InPairGroup (In xs) g k
+        forth c = let r : Reached m k = contains_told 128 m k c in subst (InPairGroup (In xs) g) (sym r.3) (met.inside r.0 r.2)
 
-      single : (s : Operation) → Contains xs s → Contains met s ⊎ (s ≡ k) → Contains met' s
-      single s c h = (l.members s).1 (s ∷ [], (h, tt), (identity, refl, (group_one xs s i c).1))
+        back : InPairGroup (In xs) g k → Contains (marked_below 128 m) k
+        back p =
+            let c : Contains xs k = p.0 in
+            let l = c.1 in
+            let o = placed k (member_framed xs k i.frame c) in
+            let e : mark_at m (place k) ≡ true = subst (λ x. mark_at m (place x) ≡ true) c.2 (met.held c.0 k (omega arith) (subst (InPairGroup (In xs) g) (sym c.2) p)) in
+            subst (Contains (marked_below 128 m)) (sym o.1) (contains_of 128 (place k) m o.0 e)
 
-      by : (q : ℕ) (d : Operation) → q < n + 1 → InPairGroup (In xs) g (slice_index_or xs q d) → (q < n) ⊎ (n ≤ q) → Contains met' (slice_index_or xs q d)
-      by q d h p (inl a) = single (slice_index_or xs q d) p.0 (inl (m.held q d a p))
-      by q d h p (inr a) =
-          let s : q ≡ n = omega arith in
-          single (slice_index_or xs q d) p.0 (inr (ap (λ z. slice_index_or xs z d) s ∙ at d))
+    pub met_listing : IsListing comes_before (InPairGroup (In xs) g) (marked_below 128 m)
+    met_listing = record { rising = marked_rising 128 m (omega arith); members = met_members }
 
-  pub meeting_done : (n : ℕ) (met : List Operation) → IsMeeting n met → length xs ≤ n → IsListing comes_before (InPairGroup (In xs) g) met
-  meeting_done n met m h = record {
-    rising = m.rising;
-    members = λ k. (m.inside k, λ p. let c = p.0 in let l = c.1 in subst (Contains met) c.2 (m.held c.0 k (omega arith) (subst (InPairGroup (In xs) g) (sym c.2) p)));
-  }
+    pub met_group : IsGroup (marked_below 128 m)
+    met_group = record {
+      rising = marked_rising 128 m (omega arith);
+      first = let r : Reached m identity = contains_told 128 m identity one in marked_first 128 m (lit< tt) (subst (λ x. mark_at m x ≡ true) (place_is_zero r.0 r.1 r.3) r.2) ∙ ap Some first_is;
+      one = one;
+      closed = closed;
+      inverses = closed_inverse (marked_below 128 m) one closed frame;
+      frame = frame;
+    }
+      where
+        one : Contains (marked_below 128 m) identity
+        one = (met_members identity).1 pair_one
+
+        closed : (k l : Operation) → Contains (marked_below 128 m) k → Contains (marked_below 128 m) l → (n : Operation) × Contains (marked_below 128 m) n × IsProduct k l n
+        closed k l a b = let r = pair_product k l ((met_members k).0 a) ((met_members l).0 b) in (r.0, (met_members r.0).1 r.1, r.2)
+
+        frame : HaveFrame (marked_below 128 m)
+        frame = by i.frame
+          where
+            by : HaveFrame xs → HaveFrame (marked_below 128 m)
+            by (inl f) = inl (λ k c. f k ((met_members k).0 c).0)
+            by (inr f) = inr (λ k c. f k ((met_members k).0 c).0)

@@ -1,16 +1,17 @@
 -- Closing a list of operations under the products with generators.
-use Rattle.std.proofs.Common.{◌≡◌, ℕ, zero, suc, ◌+◌, ◌-◌, ◌*◌, ◌<◌, ◌≤◌, Bool, true, false, List, [], ◌∷◌, ◌++◌}
+use Rattle.std.proofs.Common.{◌≡◌, ℕ, zero, suc, ◌+◌, ◌-◌, ◌*◌, ◌<◌, ◌≤◌, ◌≢◌, Bool, true, false, List, [], ◌∷◌, ◌++◌}
 use Rattle.std.proofs.Common.{length, refl, ap, sym, ◌∙◌, arith, subst, ◌⊎◌, inl, inr}
 use Rattle.std.proofs.lemmas.Bool.Decides.{nat_tests}
 use Rattle.std.specs.Prelude.{nat_lt, replicate, set, slice_index_or, Contains}
-use Rattle.std.proofs.lemmas.List.{length-set, get_or_append_left, length-append}
+use Rattle.std.proofs.lemmas.List.{length-set, get_or_append_left, get_or_push, length-append}
 use Rattle.std.proofs.lemmas.List.Elements.{Contains-append_left, Contains-push, Contains-get_or, Contains-push_cases}
 use Rattle.tensor_defs.specs.Operation.{Operation, IsProduct, identity}
 use Rattle.tensor_defs.specs.Frames.{IsPlain, IsHexagonal, HaveCommonFrame}
 use Rattle.tensor_laws.proofs.Products.{generated_within}
 use Rattle.op_matrix.specs.Table.{nth_operation, place}
+use Rattle.op_matrix.proofs.Facts.{place_of_nth}
 use Rattle.op_matrix.proofs.Listed.{plain_product, hex_product, plain_identity, hex_identity}
-use Rattle.magnetic_groups.specs.Marks.{mark_at, Reached, Added, unmarked, IsClosing, Grows, TimesReached, IsDone}
+use Rattle.magnetic_groups.specs.Marks.{mark_at, Reached, Added, unmarked, IsClosed, IsClosing, Grows, TimesReached, IsDone}
 use Rattle.magnetic_groups.specs.Sets.{HaveFrame, Spanned}
 
 -- ---- marks
@@ -19,31 +20,39 @@ mark_inside [] k e = cc
 mark_inside (b ∷ bs) zero e = omega arith
 mark_inside (b ∷ bs) (suc k) e = let h : k < length bs = mark_inside bs k e in omega arith
 
-set_told : (m : List Bool) (p k : ℕ) → mark_at (set m p true) k ≡ true → (k ≡ p) ⊎ (mark_at m k ≡ true)
+pub set_told : (m : List Bool) (p k : ℕ) → mark_at (set m p true) k ≡ true → (k ≡ p) ⊎ (mark_at m k ≡ true)
 set_told [] p k e = inr e
 set_told (b ∷ bs) zero zero e = inl refl
 set_told (b ∷ bs) zero (suc k) e = inr e
 set_told (b ∷ bs) (suc p) zero e = inr e
 set_told (b ∷ bs) (suc p) (suc k) e = elim (set_told bs p k e) [ inl h ↦ inl (ap suc h) | inr h ↦ inr h ]
 
-set_kept : (m : List Bool) (p k : ℕ) → mark_at m k ≡ true → mark_at (set m p true) k ≡ true
+pub set_kept : (m : List Bool) (p k : ℕ) → mark_at m k ≡ true → mark_at (set m p true) k ≡ true
 set_kept [] p k e = e
 set_kept (b ∷ bs) zero zero e = refl
 set_kept (b ∷ bs) zero (suc k) e = e
 set_kept (b ∷ bs) (suc p) zero e = e
 set_kept (b ∷ bs) (suc p) (suc k) e = set_kept bs p k e
 
-set_new : (m : List Bool) (p : ℕ) → p < length m → mark_at (set m p true) p ≡ true
+pub set_new : (m : List Bool) (p : ℕ) → p < length m → mark_at (set m p true) p ≡ true
 set_new [] p h = absurd (omega arith)
 set_new (b ∷ bs) zero h = refl
 set_new (b ∷ bs) (suc p) h = set_new bs p (omega arith)
 
-set_unmarked : (m : List Bool) (p : ℕ) → p < length m → mark_at m p ≡ false → 1 + unmarked (set m p true) ≡ unmarked m
+pub set_unmarked : (m : List Bool) (p : ℕ) → p < length m → mark_at m p ≡ false → 1 + unmarked (set m p true) ≡ unmarked m
 set_unmarked [] p h e = absurd (omega arith)
 set_unmarked (true ∷ bs) zero h e = cc
 set_unmarked (false ∷ bs) zero h e = refl
 set_unmarked (true ∷ bs) (suc p) h e = set_unmarked bs p (omega arith) e
 set_unmarked (false ∷ bs) (suc p) h e = ap (λ n. 1 + n) (set_unmarked bs p (omega arith) e)
+
+-- ---- numbers
+nat_split_by : (q n : ℕ) (b : Bool) → nat_lt q n ≡ b → (q < n) ⊎ (n ≤ q)
+nat_split_by q n true e = let h : q < n = grind (arith, nat_tests) in inl h
+nat_split_by q n false e = let h : n ≤ q = grind (arith, nat_tests) in inr h
+
+pub nat_split : (q n : ℕ) → (q < n) ⊎ (n ≤ q)
+nat_split q n = nat_split_by q n (nat_lt q n) refl
 
 -- ---- spans
 pub spanned_times : (gens : List Operation) (s g k : Operation) → Contains gens s → Spanned gens g → IsProduct s g k →
@@ -128,9 +137,36 @@ added_reached g m m' f f' l a = (place g, a.below, by a.either, a.at)
     by (inl (e, p, q)) = ap (λ x. mark_at x (place g)) p ∙ e
     by (inr (e, p, q)) = ap (λ x. mark_at x (place g)) p ∙ set_new m (place g) (rw l a.below)
 
+pub unreached : (m : List Bool) (g : Operation) → mark_at m (place g) ≡ false → Reached m g → ⊥
+unreached m g e r = true_false (sym r.2 ∙ ap (mark_at m) (sym (place_of_nth r.0 r.1) ∙ ap place (sym r.3)) ∙ e)
+  where
+    true_false : true ≡ false → ⊥
+    true_false e = cc
+
+apart_new : (f : List Operation) (g : Operation) (m : List Bool) → mark_at m (place g) ≡ false →
+    ((j : ℕ) (d : Operation) → j < length f → Reached m (slice_index_or f j d)) →
+    ((i j : ℕ) (d : Operation) → i < j → j < length f → slice_index_or f i d ≢ slice_index_or f j d) →
+    (i j : ℕ) (d : Operation) → i < j → j < length (f ++ g ∷ []) →
+    slice_index_or (f ++ g ∷ []) i d ≢ slice_index_or (f ++ g ∷ []) j d
+apart_new f g m u held apart i j d h l = λ e. by e (nat_split j (length f))
+  where
+    by : slice_index_or (f ++ g ∷ []) i d ≡ slice_index_or (f ++ g ∷ []) j d → (j < length f) ⊎ (length f ≤ j) → ⊥
+    by e (inl a) =
+        apart i j d h a (sym (get_or_append_left f (g ∷ []) d i (omega arith)) ∙ e ∙ get_or_append_left f (g ∷ []) d j a)
+    by e (inr a) =
+        let n = longer_by_one f g in
+        let s : length f ≡ j = omega (arith, n) in
+        let b : i < length f = omega arith in
+        unreached m g u
+        (subst (Reached m) (sym (get_or_append_left f (g ∷ []) d i b) ∙ e ∙ get_or_push f g d j s) (held i d b))
+
 added_new : (gens : List Operation) (g : Operation) (m : List Bool) (f : List Operation) → IsClosing gens m f →
-    place g < 128 → g ≡ nth_operation (place g) → Spanned gens g → IsClosing gens (set m (place g) true) (f ++ g ∷ [])
-added_new gens g m f c below at s = record {
+    place g < 128 → g ≡ nth_operation (place g) → mark_at m (place g) ≡ false → Spanned gens g →
+    IsClosing gens (set m (place g) true) (f ++ g ∷ [])
+added_new gens g m f c below at u s = record {
+  counted = let n = longer_by_one f g in let k = c.counted in let w = set_unmarked m (place g) (rw c.sized below) u in
+      omega (arith, n, k, w);
+  apart = apart_new f g m u c.held c.apart;
   sized = length-set m (place g) true ∙ c.sized;
   sound = λ k e. elim (set_told m (place g) k e) [
     | inl h ↦ subst (Spanned gens) (at ∙ ap nth_operation (sym h)) s
@@ -159,14 +195,7 @@ added_closing gens g m m' f f' c a s = by a.either
         ((mark_at m (place g) ≡ false) × (m' ≡ set m (place g) true) × (f' ≡ f ++ g ∷ [])) → IsClosing gens m' f'
     by (inl (e, p, q)) = subst (λ x. IsClosing gens x f') (sym p) (subst (IsClosing gens m) (sym q) c)
     by (inr (e, p, q)) = subst (λ x. IsClosing gens x f') (sym p)
-        (subst (IsClosing gens (set m (place g) true)) (sym q) (added_new gens g m f c a.below a.at s))
-
-nat_split_by : (q n : ℕ) (b : Bool) → nat_lt q n ≡ b → (q < n) ⊎ (n ≤ q)
-nat_split_by q n true e = let h : q < n = grind (arith, nat_tests) in inl h
-nat_split_by q n false e = let h : n ≤ q = grind (arith, nat_tests) in inr h
-
-pub nat_split : (q n : ℕ) → (q < n) ⊎ (n ≤ q)
-nat_split q n = nat_split_by q n (nat_lt q n) refl
+        (subst (IsClosing gens (set m (place g) true)) (sym q) (added_new gens g m f c a.below a.at e s))
 
 -- ---- the products of one element with all generators
 pub record IsReaching (gens : List Operation) (g : Operation) (n : ℕ) (m : List Bool) (f : List Operation)
@@ -201,18 +230,12 @@ reaching_more gens g n m m' m'' f f' f'' s k i h at r p a =
         (k, rk, subst (λ x. IsProduct x g k) (sym (ap (λ x. slice_index_or gens x d) e ∙ at d)) p)
 
 -- ---- the whole closing
-pub record IsClosed (gens : List Operation) (n : ℕ) (m : List Bool) (f : List Operation) : Type 0 where
-  pub closing : IsClosing gens m f
-  pub one : Reached m identity
-  pub done : (j : ℕ) (d : Operation) → j < n → IsDone gens m (slice_index_or f j d)
-  pub within : n ≤ length f
-
 blank : (n k : ℕ) → mark_at (replicate n false) k ≡ false
 blank zero k = refl
 blank (suc n) zero = refl
 blank (suc n) (suc k) = blank n k
 
-no_mark : (n k : ℕ) → mark_at (replicate n false) k ≡ true → ⊥
+pub no_mark : (n k : ℕ) → mark_at (replicate n false) k ≡ true → ⊥
 no_mark n k e = let h = blank n k in cc
 
 pub closed_none : (gens : List Operation) (m m' : List Bool) (f f' : List Operation) → m ≡ replicate 128 false →
@@ -233,6 +256,8 @@ closed_none gens m m' f f' e l q a = record {
       sound = λ k h. absurd (none k h);
       waiting = λ k h. absurd (none k h);
       held = λ j d h. absurd (empty j (subst (λ x. j < length x) q h));
+      counted = (λ i. length (q i) + unmarked (e i)) ∙ refl;
+      apart = λ i j d h a. absurd (empty j (subst (λ x. j < length x) q a));
     }
       where
         empty : (j : ℕ) → j < 0 → ⊥
@@ -276,3 +301,22 @@ reached_all gens n m f c h = generated_within (λ s. Contains gens s) (Reached m
           subst (λ x. IsProduct x l t.0) cs.2 (subst (λ x. IsProduct (slice_index_or gens cs.0 s) x t.0) w.2
               t.2),
         )
+
+-- an element of the list is reached
+pub held_at : (gens f : List Operation) (m : List Bool) (n : ℕ) (g : Operation) → IsClosing gens m f → n < length f →
+    ((d : Operation) → slice_index_or f n d ≡ g) → Reached m g
+held_at gens f m n g c h e = subst (Reached m) (e g) (c.held n g h)
+
+-- past the last element all are done
+pub closed_whole : (gens f : List Operation) (m : List Bool) (n : ℕ) → IsClosed gens n m f → length f ≤ n →
+    IsClosed gens (length f) m f
+closed_whole gens f m n c h = record {
+  closing = c.closing;
+  one = c.one;
+  done = λ j d l. c.done j d (omega arith);
+  within = omega arith;
+}
+
+-- where a place isn't marked, not all are found
+pub room : (m : List Bool) (n p : ℕ) → length m ≡ 128 → n + unmarked m ≡ 128 → p < 128 → mark_at m p ≡ false → n < 128
+room m n p l c h e = let u = set_unmarked m p (rw l h) e in omega (arith, u)

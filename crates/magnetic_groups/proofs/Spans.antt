@@ -14,11 +14,11 @@ use Rattle.tensor_laws.proofs.Associativity.{product_assoc}
 use Rattle.op_matrix.specs.Table.{nth_operation, operation_at, place, matrix_place}
 use Rattle.op_matrix.proofs.Facts.{place_of_nth}
 use Rattle.op_matrix.proofs.Listed.{plain_product, hex_product, plain_one, hex_one, OneTimes}
-use Rattle.magnetic_groups.specs.Marks.{mark_at, Reached, marked_below}
+use Rattle.magnetic_groups.specs.Marks.{mark_at, IsClosed, Reached, marked_below}
 use Rattle.magnetic_groups.proofs.Inverses.{closed_inverse}
 use Rattle.magnetic_groups.specs.Sets.{HaveFrame, FitsFrame, Spanned, IsKept, IsFirstOutside, IsWithin}
 use Rattle.magnetic_groups.proofs.Reaching.{nat_split, spanned_times, spanned_one, spanned_framed, spanned_plain}
-use Rattle.magnetic_groups.proofs.Reaching.{spanned_hex, span_frame, reached_spanned, IsClosed, reached_all}
+use Rattle.magnetic_groups.proofs.Reaching.{spanned_hex, span_frame, reached_spanned, reached_all}
 use Rattle.magnetic_groups.proofs.Marked.{marked_first, contains_told, contains_of, marked_rising}
 
 -- two operations of one frame have a product
@@ -58,11 +58,11 @@ contains_reached m g l = (
       (contains_of 128 r.0 m r.1 r.2),
 )
 
-place_is_zero : (k : ℕ) → k < 128 → identity ≡ nth_operation k → k ≡ 0
+pub place_is_zero : (k : ℕ) → k < 128 → identity ≡ nth_operation k → k ≡ 0
 unfolding matrix_place
 place_is_zero k h e = sym (place_of_nth k h) ∙ ap place (sym e)
 
-first_is : nth_operation 0 ≡ identity
+pub first_is : nth_operation 0 ≡ identity
 unfolding nth_operation operation_at
 first_is = refl
 
@@ -167,7 +167,7 @@ joined_frame gens items m op i (inr f) = inr (λ g c. f g (elim (Contains-push_c
       subst (Contains (items ++ op ∷ [])) e (Contains-push items op)
 ]))
 
-each_map : (S T : Operation → Type 0) → ((s : Operation) → S s → T s) → (gs : List Operation) → Each S gs → Each T gs
+pub each_map : (S T : Operation → Type 0) → ((s : Operation) → S s → T s) → (gs : List Operation) → Each S gs → Each T gs
 each_map S T f [] e = tt
 each_map S T f (g ∷ gs) e = (f g e.0, each_map S T f gs e.1)
 

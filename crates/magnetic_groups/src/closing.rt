@@ -1,46 +1,58 @@
 //! The closing of generators: all products of finite lists of them.
-ghost use Rattle.std.specs.Prelude.{◌≡◌, ◌<◌, ℕ, ◌↔◌, IfOk, length, List, Contains, ◌++◌, ◌∷◌, []};
+ghost use Rattle.std.specs.Prelude.{◌≡◌, ◌+◌, ◌<◌, ℕ, ◌↔◌, IfOk, length, List, Contains, ◌++◌, ◌∷◌, []};
 ghost use Rattle.tensor_defs.specs.Operation.{Operation};
 ghost use Rattle.tensor_defs.specs.Lists.{IsListing};
 ghost use Rattle.tensor_defs.specs.OperationOrder.{comes_before};
-ghost use Rattle.magnetic_groups.specs.Marks.{marked_below, Added, Grows, IsClosing, IsDone, Reached};
+ghost use Rattle.magnetic_groups.specs.Marks.{marked_below, Added, Grows, IsClosed, IsClosing, IsDone, Reached, unmarked};
 ghost use Rattle.magnetic_groups.specs.Sets.{HaveFrame, Spanned, IsGroup};
 
 use crate::Group;
+use crate::found::Found;
+use crate::greedy::greedy_of;
 use op_matrix::Op;
 use std::alloc::{AllocError, Global};
 
 /// Marks the operation and puts it at the list's end, where it isn't marked yet.
-fn add(op: Op, marks: &mut [bool], found: &mut Vec<Op>) -> Result<(), AllocError>
-    requires { length marks.old ≡ 128 }
-    ensures { IfOk result (λ _. Added op marks.old found.old.items marks.new found.new.items) }
+pub fn add(op: Op, marks: &mut [bool], found: &mut Found)
+    requires sized { length marks.old ≡ 128 }
+    requires counted { length found.old + unmarked marks.old ≡ 128 }
+    ensures { Added op marks.old found.old marks.new found.new }
 {
     let place = op.place();
     if !marks[place] {
         marks[place] = true;
-        found.push(op)?;
+        found.push(op);
     }
-    Ok(())
 }
 
 /// Adds the products of all generators with the element.
-fn reach(
-    generators: &[Op],
-    element: &Op,
-    marks: &mut [bool],
-    found: &mut Vec<Op>,
-) -> Result<(), AllocError>
+fn reach(generators: &[Op], element: &Op, marks: &mut [bool], found: &mut Found)
     requires frame { HaveFrame generators.now }
-    requires closing { IsClosing generators.now marks.old found.old.items }
+    requires closing { IsClosing generators.now marks.old found.old }
     requires reached { Reached marks.old element.now }
-    ensures closing { IfOk result (λ _. IsClosing generators.now marks.new found.new.items) }
-    ensures grows { IfOk result (λ _. Grows marks.old found.old.items marks.new found.new.items) }
-    ensures done { IfOk result (λ _. IsDone generators.now marks.new element.now) }
+    ensures closing { IsClosing generators.now marks.new found.new }
+    ensures grows { Grows marks.old found.old marks.new found.new }
+    ensures done { IsDone generators.now marks.new element.now }
 {
     for generator in generators {
-        add(generator.product(element), marks, found)?;
+        add(generator.product(element), marks, found);
     }
-    Ok(())
+}
+
+/// Closes under the products with the generators, where the first `done` elements are done. Each element found is
+/// multiplied by the generators alone.
+pub fn finish(generators: &[Op], done: usize, marks: &mut [bool], found: &mut Found)
+    requires frame { HaveFrame generators.now }
+    requires closed { IsClosed generators.now done marks.old found.old }
+    ensures closed { IsClosed generators.now (length found.new) marks.new found.new }
+    ensures grows { Grows marks.old found.old marks.new found.new }
+{
+    let mut next = done;
+    while next < found.len() {
+        let element = found.at(next);
+        reach(generators, &element, marks, found);
+        next += 1;
+    }
 }
 
 /// The operations at the marked places, in their order.
@@ -57,21 +69,30 @@ pub fn list_marked(alloc: Global, marks: &[bool]) -> Result<Vec<Op>, AllocError>
     Ok(elements)
 }
 
-/// The group of all products of the generators. Each element found is multiplied by the generators alone.
+/// The group of all products of the generators.
 pub fn close(alloc: Global, generators: Vec<Op>) -> Result<Group, AllocError>
     requires { HaveFrame generators.items }
     ensures { IfOk result (λ g. IsListing comes_before (Spanned generators.items) g) }
 {
     let mut marks = [false; 128];
-    let mut found = Vec::new(alloc);
-    add(Op::identity(), &mut marks, &mut found)?;
-    let mut next = 0;
-    while next < found.len() {
-        let element = found[next];
-        reach(&generators, &element, &mut marks, &mut found)?;
-        next += 1;
-    }
+    let mut found = Found::none();
+    add(Op::identity(), &mut marks, &mut found);
+    finish(&generators, 0, &mut marks, &mut found);
     let elements = list_marked(alloc, &marks)?;
+    Ok(Group {
+        elements,
+        marks,
+        generators,
+    })
+}
+
+/// The group of the operations at the marked places.
+pub fn of_marks(alloc: Global, marks: [bool; 128]) -> Result<Group, AllocError>
+    requires { IsGroup (marked_below 128 marks) }
+    ensures { IfOk result (λ g. g ≡ marked_below 128 marks) }
+{
+    let elements = list_marked(alloc, &marks)?;
+    let generators = copied(alloc, greedy_of(&elements).as_slice())?;
     Ok(Group {
         elements,
         marks,

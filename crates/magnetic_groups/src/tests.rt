@@ -48,3 +48,25 @@ fn a_joined_group(rt: HostRuntime) -> Result<(), Fail> {
     assert!(rt; one.is_subset(&grey) && !grey.is_subset(&one) && one.place_of(&reversal).is_none());
     Ok(())
 }
+
+#[test]
+fn few_generators(rt: HostRuntime) -> Result<(), Fail> {
+    let Ok(tree) = read_group(b"2/m") else {
+        panic!(rt; "2/m isn't read");
+    };
+    let Ok(group) = build_group(rt.alloc(), &tree) else {
+        panic!(rt; "2/m has no group");
+    };
+    let taken = group.greedy();
+    assert_eq!(rt; taken.len(), 2);
+    assert_eq!(rt;
+        Some(taken.at(0)),
+        generator(OpKind::Mirror, Direction::Y, false)
+    );
+    assert_eq!(rt;
+        Some(taken.at(1)),
+        generator(OpKind::Two, Direction::Y, false)
+    );
+    assert_eq!(rt; Group::trivial(rt.alloc())?.greedy().as_slice().len(), 0);
+    Ok(())
+}

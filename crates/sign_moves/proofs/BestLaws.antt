@@ -1,19 +1,17 @@
 -- How a table of first components is made from a table of classes.
-use Rattle.std.proofs.Common.{◌≡◌, ◌≢◌, ℕ, ◌+◌, ◌<◌, ◌≤◌, Bool, true, false, List, length, get_or, set, arith, ap, sym, ◌∙◌, refl, subst, ◌⊎◌, inl, inr}
+use Rattle.std.proofs.Common.{◌≡◌, ◌≢◌, ℕ, ◌+◌, ◌<◌, Bool, true, false, List, length, get_or, set, arith, ap, sym, ◌∙◌, subst, inl, inr}
 use Rattle.std.specs.Prelude.{slice_set}
 use Rattle.std.proofs.lemmas.List.{length-set, get_or-set_other}
 use Rattle.std.proofs.lemmas.Grind.{get_or-set_at}
 use Rattle.std.proofs.lemmas.Bool.Decides.{eqb_tells}
 use Rattle.std.proofs.lemmas.Bool.{cases_lt}
 use Rattle.sign_moves.specs.declared.classes.Entry.{Entry}
-use Rattle.tensor_defs.specs.declared.Sign.{Sign}
-use Rattle.tensor_defs.specs.declared.Sign.TheVariants.{Plus}
 use Rattle.sign_moves.specs.Signs.{times, times-times, times_self}
 use Rattle.sign_moves.specs.Moves.{Moves, IsReversible}
-use Rattle.sign_moves.specs.Classes.{entry_at, first_at, sign_at, vanishes_at, IsClassTable}
+use Rattle.sign_moves.specs.Classes.{first_at, sign_at, vanishes_at, IsClassTable}
 use Rattle.sign_moves.proofs.ClassLaws.{same_first, reached_first, zero_of_vanishing, class_reaches}
 use Rattle.sign_moves.proofs.EngineLaws.{bool_cases}
-use Rattle.sign_moves.specs.Best.{best_at, IsBestUpTo, IsBest, link_of, AreLinks}
+use Rattle.sign_moves.specs.Best.{best_at, IsBestUpTo, AreLinks}
 use Rattle.sign_moves.specs.Firsts.{IsStrict, IsFirstTable}
 
 pub best_start : (n : ℕ) (before : ℕ → ℕ → Bool) (classes : List Entry) (best : List ℕ) → length best ≡ n →

@@ -1,16 +1,13 @@
 -- What a table of classes says of the component lists that moves keep.
-use Rattle.std.proofs.Common.{◌≡◌, ℕ, ◌<◌, ◌≤◌, Bool, true, false, List, arith, ap, sym, ◌∙◌, refl, subst, le_trans, le_refl}
-use Rattle.std.specs.Prelude.{eqb}
-use Rattle.std.proofs.lemmas.Bool.{eqb-true, eq-eqb}
-use Rattle.tensor_defs.specs.Number.{Number, num_zero, num_one}
+use Rattle.std.proofs.Common.{◌≡◌, ℕ, ◌<◌, ◌≤◌, true, List, arith, ap, sym, ◌∙◌, refl, subst}
+use Rattle.tensor_defs.specs.Number.{Number, num_zero}
 use Rattle.sign_moves.specs.declared.classes.Entry.{Entry}
 use Rattle.tensor_defs.specs.declared.Sign.{Sign}
-use Rattle.tensor_defs.specs.declared.Sign.TheVariants.{Plus, Minus}
 use Rattle.sign_moves.specs.Signs.{times, times_self, signed}
 use Rattle.sign_moves.specs.Moves.{Moves, IsReversible, IsKept, Reaches, stay, move}
 use Rattle.sign_moves.specs.Classes.{first_at, sign_at, vanishes_at, IsFixed, Clashes, IsClassTable}
-use Rattle.sign_moves.proofs.SignLaws.{signed-signed, signed_zero, sign_not_zero}
-use Rattle.sign_moves.proofs.MoveLaws.{reached_below, reached_same, reaches_join, reaches_back, zero_of_both}
+use Rattle.sign_moves.proofs.SignLaws.{signed-signed, signed_zero}
+use Rattle.sign_moves.proofs.MoveLaws.{reached_same, reaches_join, reaches_back, zero_of_both}
 
 -- along a path the first component does not fall
 first_rises : {n : ℕ} {m : Moves} {c d : ℕ} {s : Sign} (es : List Entry) → IsReversible n m → IsFixed n m es → Reaches m c d s → c < n → first_at es c ≤ first_at es d

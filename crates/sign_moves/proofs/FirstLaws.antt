@@ -1,14 +1,13 @@
 -- What tables of classes and of first components say of the component lists that moves keep.
-use Rattle.std.proofs.Common.{◌≡◌, ℕ, ◌<◌, ◌≤◌, Bool, true, false, cond, List, arith, ap, sym, ◌∙◌, refl, subst, ◌⊎◌, inl, inr}
+use Rattle.std.proofs.Common.{◌≡◌, ℕ, ◌<◌, Bool, true, false, List, ap, sym, ◌∙◌, refl, inl, inr}
 use Rattle.tensor_defs.specs.Number.{Number, num_zero, num_one}
 use Rattle.sign_moves.specs.declared.classes.Entry.{Entry}
 use Rattle.tensor_defs.specs.declared.Sign.{Sign}
-use Rattle.tensor_defs.specs.declared.Sign.TheVariants.{Plus, Minus}
-use Rattle.sign_moves.specs.Signs.{times, times-times, times_self, times_plus, signed}
+use Rattle.sign_moves.specs.Signs.{times, times-times, times_plus, signed}
 use Rattle.sign_moves.specs.Moves.{Moves, IsReversible, IsKept, Reaches, stay, move, IsForced, IsFirst}
 use Rattle.sign_moves.specs.Classes.{first_at, sign_at, vanishes_at, IsClassTable, IsFirstOfClass}
 use Rattle.sign_moves.specs.Firsts.{IsFirstTable, AreSettled}
-use Rattle.sign_moves.specs.Laws.{TableTells, TablesTell, FirstTells, FirstsTell}
+use Rattle.sign_moves.specs.Laws.{TablesTell, FirstsTell}
 use Rattle.sign_moves.proofs.SignLaws.{signed-signed, signed_zero, sign_not_zero}
 use Rattle.sign_moves.proofs.MoveLaws.{reached_below, reached_same}
 use Rattle.sign_moves.proofs.ClassLaws.{same_first, reached_first, zero_of_vanishing, class_reaches, class_same}

@@ -5,3 +5,4 @@ pub mod ClassLaws
 pub mod JoinedLaws
 pub mod BestLaws
 pub mod FirstLaws
+pub mod DigitLaws

@@ -38,3 +38,17 @@ reaches_back {n} {m} {c} {d} r (move k below path is) h =
 pub zero_of_both : {n : ℕ} {m : Moves} {c d : ℕ} {s u : Sign} (t : ℕ → Number) → IsReversible n m → IsKept n m t → c < n → Reaches m c d s → Reaches m c d u → s ≢ u → t d ≡ num_zero
 zero_of_both {n} {m} {c} {d} {s} {u} t r kept h one other differ =
     opposite s u (t d) (sym (reached_same t r kept one h) ∙ reached_same t r kept other h) differ
+
+-- a path leads back with its own sign: out and back again, any other sign is taken twice
+pub reaches_home : {n : ℕ} {m : Moves} {c d : ℕ} {s : Sign} → IsReversible n m → Reaches m c d s → c < n → Reaches m d c s
+reaches_home {n} {m} {c} {d} {s} back path below =
+    let home = reaches_back back path below in
+    let whole : Reaches m d c (times home.0 (times s home.0)) = reaches_join home.1 (reaches_join path home.1) in
+    let P : Sign → Type 0 = λ u. Reaches m d c u in
+    subst P (taken_twice home.0 s) whole
+  where
+    taken_twice : (t u : Sign) → times t (times u t) ≡ u
+    taken_twice Plus Plus = refl
+    taken_twice Plus Minus = refl
+    taken_twice Minus Plus = refl
+    taken_twice Minus Minus = refl

@@ -1,7 +1,7 @@
 -- Numbers with signs.
-use Rattle.std.proofs.Common.{◌≡◌, ◌≢◌, ℕ, refl, ap, sym, ◌∙◌}
-use lib.IntN.{ℤ, pos, negsuc}
-use Rattle.tensor_defs.specs.Number.{Number, add, mul, neg, num_zero, num_one, whole, half_of, same_numbers}
+use Rattle.std.proofs.Common.{◌≡◌, ◌≢◌, refl, ap, sym, ◌∙◌}
+use lib.IntN.{pos}
+use Rattle.tensor_defs.specs.Number.{Number, add, mul, neg, num_zero, num_one, whole, half_of}
 use Rattle.number_laws.proofs.NumberLaws.{num_mul-zero, num_neg-neg, num_add-neg, num_mul-one, num_one-mul, num_mul-add, num_mul_assoc, two_halves, num_mul_comm}
 use Rattle.number_laws.proofs.Sameness.{numbers_are_same_lem}
 use Rattle.tensor_defs.specs.declared.Sign.{Sign}

@@ -4,7 +4,7 @@
 --   IsFixed         no move leads to a class that begins earlier
 --   Clashes         a class is reached with both signs
 --   IsClassTable    the classes, and where each kept list is zero
---   IsClean, IsCleanAt, IsMarking, KeepsClasses, IsUnmarked, total_of    the steps of making a table
+--   total_of        the sum of the first components
 --   IsFirstOfClass  the first component of a class in an order, and the sign
 use Rattle.std.specs.Prelude.{◌≡◌, ◌≢◌, ℕ, ◌<◌, ◌≤◌, List, length, get_or, Bool, true, false, sum_by}
 use Rattle.sign_moves.specs.declared.classes.Entry.{Entry}
@@ -53,34 +53,9 @@ pub record IsClassTable (n : ℕ) (m : Moves) (es : List Entry) : Type 0 where
   pub clashing : (r : ℕ) → r < n → vanishes_at es r ≡ true → Clashes n m es r
   pub clean : (k c : ℕ) → k < m.count → c < n → vanishes_at es (first_at es c) ≡ false → sign_at es c ≡ times (m.sign k c) (sign_at es (m.carried k c))
 
--- the sum of the first components, which falls with each improvement
+-- the sum of the first components, which falls with each component that is taken over into a class
 abbrev pub total_of : List Entry → ℕ
 total_of es = sum_by (λ e. e.first) es
-
--- where the class of c doesn't vanish, a move carries c with the sign that the table says
-pub record IsClean (m : Moves) (es : List Entry) (k c : ℕ) : Type 0 where
-  pub clean : vanishes_at es (first_at es c) ≡ false → sign_at es c ≡ times (m.sign k c) (sign_at es (m.carried k c))
-
--- so does each move
-pub record IsCleanAt (m : Moves) (es : List Entry) (c : ℕ) : Type 0 where
-  pub each : (k : ℕ) → k < m.count → IsClean m es k c
-
--- settled classes, and what is marked to vanish does
-pub record IsMarking (n : ℕ) (m : Moves) (es : List Entry) : Type 0 where
-  pub sound : IsSound n m es
-  pub fixed : IsFixed n m es
-  pub clashing : (r : ℕ) → r < n → vanishes_at es r ≡ true → Clashes n m es r
-
--- the same classes, and no mark is taken back
-pub record KeepsClasses (old new : List Entry) : Type 0 where
-  pub len : length new ≡ length old
-  pub first : (d : ℕ) → first_at new d ≡ first_at old d
-  pub sign : (d : ℕ) → sign_at new d ≡ sign_at old d
-  pub vanishes : (d : ℕ) → vanishes_at old d ≡ true → vanishes_at new d ≡ true
-
--- nothing is marked to vanish
-pub record IsUnmarked (es : List Entry) : Type 0 where
-  pub unmarked : (d : ℕ) → vanishes_at es d ≡ false
 
 -- the first component of the class of c in an order, and the sign with which c is carried there
 pub record IsFirstOfClass (n : ℕ) (es : List Entry) (before : ℕ → ℕ → Bool) (c d : ℕ) (s : Sign) : Type 0 where

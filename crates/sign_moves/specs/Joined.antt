@@ -1,6 +1,6 @@
 -- The moves of two lists together.
 --   joined          the moves of the first list, and then those of the second
-use Rattle.std.specs.Prelude.{ℕ, ◌+◌, ◌-◌, nat_lt}
+use Rattle.std.specs.Prelude.{◌+◌, ◌-◌, nat_lt}
 use Rattle.std.proofs.Common.{cond}
 use Rattle.sign_moves.specs.Moves.{Moves}
 

@@ -1,8 +1,10 @@
 pub mod Signs
 pub mod Moves
 pub mod Classes
+pub mod Walks
 pub mod Joined
 pub mod Tabling
+pub mod Digits
 pub mod Firsts
 pub mod Best
 pub mod Laws

@@ -2,7 +2,6 @@
 --   step_at, steps_at    a step of a move; the steps of a move
 --   IsStepRow, IsTabled  the steps of one move at each component; of all moves
 use Rattle.std.specs.Prelude.{◌≡◌, ℕ, ◌<◌, List, [], length, get_or}
-use Rattle.tensor_defs.specs.declared.Sign.{Sign}
 use Rattle.tensor_defs.specs.declared.Sign.TheVariants.{Plus}
 use Rattle.sign_moves.specs.Moves.{Moves}
 use Rattle.sign_moves.specs.declared.tabled.Step.{Step}

@@ -1,6 +1,7 @@
-ghost use Rattle.std.specs.Prelude.{◌≡◌, ℕ, ◌+◌, ◌<◌, ◌≤◌, List, length, IfOk, IsTrue, true, false, sum_by, ◌↔◌};
+ghost use Rattle.std.specs.Prelude.{◌≡◌, ℕ, ◌+◌, ◌<◌, ◌≤◌, List, length, IfOk, OnOk};
 ghost use Rattle.sign_moves.specs.Moves.{IsReversible};
-ghost use Rattle.sign_moves.specs.Classes.{IsSound, IsFixed, IsClassTable, IsClean, IsCleanAt, IsMarking, IsUnmarked, KeepsClasses, first_at, total_of};
+ghost use Rattle.sign_moves.specs.Classes.{IsClassTable};
+ghost use Rattle.sign_moves.specs.Walks.{IsStep, IsVisit, IsWalk, IsWalked};
 
 use crate::classes::Entry;
 use crate::memory::NoMemory;
@@ -12,10 +13,9 @@ use tensor_defs::Sign;
 /// Each component in a class of its own.
 fn single_classes<M: Moves>(alloc: Global, moves: &M) -> Result<Vec<Entry>, NoMemory>
     requires { M.size moves.now ≤ 729 }
-    ensures sound { IfOk result (λ table. IsSound (M.size moves.now) (M.moves moves.now) table.items) }
-    ensures unmarked { IfOk result (λ table. IsUnmarked table.items) }
+    ensures { IfOk result (λ table. IsWalked (M.size moves.now) (M.moves moves.now) table.items 0) }
 {
-    let mut table = Vec::new(alloc);
+    let mut table = Vec::with_capacity(alloc, moves.size())?;
     for c in 0..moves.size() {
         table.push(Entry {
             first: c as u16,
@@ -26,143 +26,123 @@ fn single_classes<M: Moves>(alloc: Global, moves: &M) -> Result<Vec<Entry>, NoMe
     Ok(table)
 }
 
-/// Takes over the class of the component to which one move carries c, where that class begins earlier. Says whether it does.
-fn improve<M: Moves>(moves: &M, table: &mut [Entry], place: usize, c: usize) -> bool
+/// Carries the component at the head of the queue by one move. Where that leads to a component that no walk has come
+/// to, it joins the class and the queue; elsewhere the class is marked to vanish if the sign differs from the table's.
+fn step<M: Moves>(
+    moves: &M,
+    table: &mut [Entry],
+    queue: &mut Vec<u16>,
+    root: usize,
+    head: usize,
+    place: usize,
+) -> Result<(), NoMemory>
+    requires small { M.size moves.now ≤ 729 }
     requires reversible { IsReversible (M.size moves.now) (M.moves moves.now) }
     requires place { place < (M.moves moves.now).count }
-    requires component { c < (M.size moves.now) }
-    requires sound { IsSound (M.size moves.now) (M.moves moves.now) table.old }
-    requires unmarked { IsUnmarked table.old }
-    ensures sound { IsSound (M.size moves.now) (M.moves moves.now) table.new }
-    ensures unmarked { IsUnmarked table.new }
-    ensures falls { result ≡ true → total_of table.new < total_of table.old }
-    ensures unchanged { result ≡ false → table.new ≡ table.old }
-    ensures fixed { result ≡ false → first_at table.new c ≤ first_at table.new ((M.moves moves.now).carried place c) }
+    requires head { head < length queue.old.items }
+    requires walk { IsWalk (M.size moves.now) (M.moves moves.now) table.old root queue.old.items head }
+    ensures { OnOk result (IsStep (M.size moves.now) (M.moves moves.now) table.old table.new root queue.old.items queue.new.items head place) }
 {
-    let (next, sign) = moves.carry(place, c);
-    let there = table[next];
-    if there.first < table[c].first {
-        table[c] = Entry {
-            first: there.first,
-            sign: times(sign, there.sign),
-            vanishes: false,
-        };
-        true
-    } else {
-        false
-    }
-}
-
-/// Improves the class of c by each move. Says whether one did.
-fn improve_at<M: Moves>(moves: &M, table: &mut [Entry], c: usize) -> bool
-    requires reversible { IsReversible (M.size moves.now) (M.moves moves.now) }
-    requires component { c < (M.size moves.now) }
-    requires sound { IsSound (M.size moves.now) (M.moves moves.now) table.old }
-    requires unmarked { IsUnmarked table.old }
-    ensures sound { IsSound (M.size moves.now) (M.moves moves.now) table.new }
-    ensures unmarked { IsUnmarked table.new }
-    ensures falls { result ≡ true → total_of table.new < total_of table.old }
-    ensures unchanged { result ≡ false → table.new ≡ table.old }
-    ensures fixed { result ≡ false → (k : ℕ) → k < (M.moves moves.now).count → first_at table.new c ≤ first_at table.new ((M.moves moves.now).carried k c) }
-{
-    let mut changed = false;
-    for place in 0..moves.count() {
-        if improve(moves, table, place, c) {
-            changed = true;
-        }
-    }
-    changed
-}
-
-/// Improves the class of each component. Says whether one was.
-fn improve_all<M: Moves>(moves: &M, table: &mut [Entry]) -> bool
-    requires reversible { IsReversible (M.size moves.now) (M.moves moves.now) }
-    requires sound { IsSound (M.size moves.now) (M.moves moves.now) table.old }
-    requires unmarked { IsUnmarked table.old }
-    ensures sound { IsSound (M.size moves.now) (M.moves moves.now) table.new }
-    ensures unmarked { IsUnmarked table.new }
-    ensures falls { result ≡ true → total_of table.new < total_of table.old }
-    ensures fixed { result ≡ false → IsFixed (M.size moves.now) (M.moves moves.now) table.new }
-{
-    let mut changed = false;
-    for number in 0..moves.size() {
-        if improve_at(moves, table, number) {
-            changed = true;
-        }
-    }
-    changed
-}
-
-/// Improves the classes until nothing changes.
-fn settle<M: Moves>(moves: &M, table: &mut [Entry])
-    requires reversible { IsReversible (M.size moves.now) (M.moves moves.now) }
-    requires sound { IsSound (M.size moves.now) (M.moves moves.now) table.old }
-    requires unmarked { IsUnmarked table.old }
-    ensures sound { IsSound (M.size moves.now) (M.moves moves.now) table.new }
-    ensures unmarked { IsUnmarked table.new }
-    ensures fixed { IsFixed (M.size moves.now) (M.moves moves.now) table.new }
-{
-    while improve_all(moves, table) {}
-}
-
-/// Marks the class of c to vanish where a move carries c with another sign than the table says.
-fn mark<M: Moves>(moves: &M, table: &mut [Entry], place: usize, c: usize)
-    requires reversible { IsReversible (M.size moves.now) (M.moves moves.now) }
-    requires place { place < (M.moves moves.now).count }
-    requires component { c < (M.size moves.now) }
-    requires marking { IsMarking (M.size moves.now) (M.moves moves.now) table.old }
-    ensures marking { IsMarking (M.size moves.now) (M.moves moves.now) table.new }
-    ensures keeps { KeepsClasses table.old table.new }
-    ensures clean { IsClean (M.moves moves.now) table.new place c }
-{
+    let c = queue[head] as usize;
     let (next, sign) = moves.carry(place, c);
     let here = table[c];
     let there = table[next];
+    if here.first < there.first {
+        table[next] = Entry {
+            first: here.first,
+            sign: times(sign, here.sign),
+            vanishes: false,
+        };
+        queue.push(next as u16)?;
+        return Ok(());
+    }
     if here.sign != times(sign, there.sign) {
-        let root = table[here.first as usize];
-        table[here.first as usize] = Entry {
-            first: root.first,
-            sign: root.sign,
+        let entry = table[root];
+        table[root] = Entry {
+            first: entry.first,
+            sign: entry.sign,
             vanishes: true,
         };
+        return Ok(());
     }
+    Ok(())
 }
 
-/// Marks the class of c by each move.
-fn mark_at<M: Moves>(moves: &M, table: &mut [Entry], c: usize)
+/// Carries the component at the head of the queue by each move.
+fn visit<M: Moves>(
+    moves: &M,
+    table: &mut [Entry],
+    queue: &mut Vec<u16>,
+    root: usize,
+    head: usize,
+) -> Result<(), NoMemory>
+    requires small { M.size moves.now ≤ 729 }
     requires reversible { IsReversible (M.size moves.now) (M.moves moves.now) }
-    requires component { c < (M.size moves.now) }
-    requires marking { IsMarking (M.size moves.now) (M.moves moves.now) table.old }
-    ensures marking { IsMarking (M.size moves.now) (M.moves moves.now) table.new }
-    ensures keeps { KeepsClasses table.old table.new }
-    ensures clean { IsCleanAt (M.moves moves.now) table.new c }
+    requires head { head < length queue.old.items }
+    requires walk { IsWalk (M.size moves.now) (M.moves moves.now) table.old root queue.old.items head }
+    ensures { OnOk result (IsVisit (M.size moves.now) (M.moves moves.now) table.old table.new root queue.old.items queue.new.items head) }
 {
     for place in 0..moves.count() {
-        mark(moves, table, place, c);
+        step(moves, table, queue, root, head, place)?;
     }
+    Ok(())
 }
 
-/// Marks each class that vanishes.
-fn mark_all<M: Moves>(moves: &M, table: &mut [Entry])
+/// Walks over the class of a component: carries each component of the queue, from the head on, by each move.
+fn walk<M: Moves>(
+    moves: &M,
+    table: &mut [Entry],
+    queue: &mut Vec<u16>,
+    root: usize,
+    start: usize,
+) -> Result<(), NoMemory>
+    requires small { M.size moves.now ≤ 729 }
     requires reversible { IsReversible (M.size moves.now) (M.moves moves.now) }
-    requires marking { IsMarking (M.size moves.now) (M.moves moves.now) table.old }
-    ensures marking { IsMarking (M.size moves.now) (M.moves moves.now) table.new }
-    ensures clean { (c : ℕ) → c < (M.size moves.now) → IsCleanAt (M.moves moves.now) table.new c }
+    requires start { start ≤ length queue.old.items }
+    requires walk { IsWalk (M.size moves.now) (M.moves moves.now) table.old root queue.old.items start }
+    ensures { OnOk result (IsWalked (M.size moves.now) (M.moves moves.now) table.new (root + 1)) }
 {
+    let mut head = start;
+    while head < queue.len() {
+        visit(moves, table, queue, root, head)?;
+        head += 1;
+    }
+    Ok(())
+}
+
+/// Walks over the class of a component that no walk has come to.
+fn walk_from<M: Moves>(
+    moves: &M,
+    table: &mut [Entry],
+    queue: &mut Vec<u16>,
+    number: usize,
+) -> Result<(), NoMemory>
+    requires small { M.size moves.now ≤ 729 }
+    requires reversible { IsReversible (M.size moves.now) (M.moves moves.now) }
+    requires number { number < M.size moves.now }
+    requires walked { IsWalked (M.size moves.now) (M.moves moves.now) table.old number }
+    ensures { OnOk result (IsWalked (M.size moves.now) (M.moves moves.now) table.new (number + 1)) }
+{
+    if (table[number].first as usize) < number {
+        return Ok(());
+    }
+    let start = queue.len();
+    queue.push(number as u16)?;
+    walk(moves, table, queue, number, start)
+}
+
+/// Walks over each class, and so divides components into the classes that the moves join, and marks those that vanish.
+fn divide<M: Moves>(alloc: Global, moves: &M, table: &mut [Entry]) -> Result<(), NoMemory>
+    requires small { M.size moves.now ≤ 729 }
+    requires reversible { IsReversible (M.size moves.now) (M.moves moves.now) }
+    requires walked { IsWalked (M.size moves.now) (M.moves moves.now) table.old 0 }
+    ensures { OnOk result (IsClassTable (M.size moves.now) (M.moves moves.now) table.new) }
+{
+    let mut queue = Vec::with_capacity(alloc, moves.size())?;
     for number in 0..moves.size() {
-        mark_at(moves, table, number);
+        walk_from(moves, table, &mut queue, number)?;
     }
-}
-
-/// Divides components into classes that the moves join, and marks those that vanish.
-fn divide<M: Moves>(moves: &M, table: &mut [Entry])
-    requires reversible { IsReversible (M.size moves.now) (M.moves moves.now) }
-    requires sound { IsSound (M.size moves.now) (M.moves moves.now) table.old }
-    requires unmarked { IsUnmarked table.old }
-    ensures { IsClassTable (M.size moves.now) (M.moves moves.now) table.new }
-{
-    settle(moves, table);
-    mark_all(moves, table);
+    Ok(())
 }
 
 /// The classes into which moves divide the components, each with its lowest component, and where each list that
@@ -173,6 +153,6 @@ pub fn class_table<M: Moves>(alloc: Global, moves: &M) -> Result<Vec<Entry>, NoM
     ensures { IfOk result (λ table. IsClassTable (M.size moves.now) (M.moves moves.now) table.items) }
 {
     let mut table = single_classes(alloc, moves)?;
-    divide(moves, &mut table);
+    divide(alloc, moves, &mut table)?;
     Ok(table)
 }

@@ -38,7 +38,7 @@ fn own_best(alloc: Global, size: usize) -> Result<Vec<u16>, NoMemory>
     ensures len { IfOk result (λ best. length best.items ≡ size) }
     ensures own { IfOk result (λ best. (c : ℕ) → c < size → get_or best.items c 0 ≡ c) }
 {
-    let mut best = Vec::new(alloc);
+    let mut best = Vec::with_capacity(alloc, size)?;
     for c in 0..size {
         best.push(c as u16)?;
     }
@@ -104,7 +104,7 @@ fn links<P: Precedence>(alloc: Global, classes: &[Entry], order: &P) -> Result<V
     ensures { IfOk result (λ links. AreLinks (P.size order.now) (P.order order.now) classes.now links.items) }
 {
     let best = best_of_classes(alloc, classes, order)?;
-    let mut links = Vec::new(alloc);
+    let mut links = Vec::with_capacity(alloc, classes.len())?;
     for c in 0..classes.len() {
         links.push(link(classes, &best, c))?;
     }

@@ -1,6 +1,9 @@
 ghost use Rattle.std.specs.Prelude.{◌≡◌, ◌+◌, ◌<◌, ◌^◌};
 
+use crate::memory::NoMemory;
 use crate::moves::Moves;
+use crate::tabled::Step;
+use std::alloc::Global;
 use tensor_defs::Sign;
 
 /// The moves of two lists together.
@@ -45,6 +48,15 @@ impl<A: Moves + Drop, B: Moves + Drop> Moves for Joined<A, B> {
             self.first.carry(place, c)
         } else {
             self.second.carry(place - count, c)
+        }
+    }
+
+    fn row(&self, alloc: Global, place: usize) -> Result<Vec<Step>, NoMemory> {
+        let count = self.first.count();
+        if place < count {
+            self.first.row(alloc, place)
+        } else {
+            self.second.row(alloc, place - count)
         }
     }
 }

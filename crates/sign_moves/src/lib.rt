@@ -3,6 +3,7 @@
 #![tactic(auto)]
 
 mod classes;
+mod digits;
 mod engine;
 mod firsts;
 mod joined;
@@ -13,6 +14,7 @@ mod signs;
 mod tabled;
 
 pub use classes::Entry;
+pub use digits::digit_row;
 pub use engine::class_table;
 pub use firsts::{Precedence, first_table};
 pub use joined::Joined;

@@ -1,9 +1,13 @@
+use crate::memory::NoMemory;
+use crate::tabled::Step;
+use std::alloc::Global;
 use tensor_defs::Sign;
 
 /// Moves that carry components, by their numbers, to one another, with signs.
 pub trait Moves {
-    ghost use Rattle.std.specs.Prelude.{◌≡◌, ◌<◌, ℕ};
+    ghost use Rattle.std.specs.Prelude.{◌≡◌, ◌<◌, ◌≤◌, ℕ, IfOk};
     ghost use Rattle.sign_moves.specs.Moves.{Moves as MoveTable};
+    ghost use Rattle.sign_moves.specs.Tabling.{IsStepRow};
 
     /// How many components there are.
     ghost size: { Self → ℕ };
@@ -25,4 +29,24 @@ pub trait Moves {
         requires component { c < size self.now }
         ensures component { result.0 ≡ (moves self.now).carried place c }
         ensures sign { result.1 ≡ (moves self.now).sign place c };
+
+    /// Where a move carries each component, and with which sign. Moves that tell this faster than component by
+    /// component write a body of their own.
+    fn row(&self, alloc: Global, place: usize) -> Result<Vec<Step>, NoMemory>
+        requires place { place < (moves self.now).count }
+        requires small { size self.now ≤ 729 }
+        requires stays { (c : ℕ) → c < size self.now → (moves self.now).carried place c < size self.now }
+        ensures { IfOk result (λ row. IsStepRow (size self.now) (moves self.now) place row.items) }
+    {
+        let size = self.size();
+        let mut row = Vec::with_capacity(alloc, size)?;
+        for c in 0..size {
+            let (to, sign) = self.carry(place, c);
+            row.push(Step {
+                to: to as u16,
+                sign,
+            })?;
+        }
+        Ok(row)
+    }
 }

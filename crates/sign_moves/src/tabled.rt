@@ -22,24 +22,6 @@ pub struct Tabled<'a, M: Moves> {
     ghost told: { IsTabled (M.size moves.now) (M.moves moves.now) (map (λ row. row.items) rows.items) },
 }
 
-/// The steps of one move.
-fn steps_of<M: Moves>(alloc: Global, moves: &M, place: usize) -> Result<Vec<Step>, NoMemory>
-    requires place { place < (M.moves moves.now).count }
-    requires size { M.size moves.now ≤ 729 }
-    requires reversible { IsReversible (M.size moves.now) (M.moves moves.now) }
-    ensures { IfOk result (λ row. IsStepRow (M.size moves.now) (M.moves moves.now) place row.items) }
-{
-    let mut row = Vec::new(alloc);
-    for c in 0..moves.size() {
-        let (to, sign) = moves.carry(place, c);
-        row.push(Step {
-            to: to as u16,
-            sign,
-        })?;
-    }
-    Ok(row)
-}
-
 impl<'a, M: Moves> Tabled<'a, M> {
     /// Carries out each move at each component once, so that later reads cost nothing.
     pub fn new(alloc: Global, moves: &'a M) -> Result<Tabled<'a, M>, NoMemory>
@@ -47,9 +29,9 @@ impl<'a, M: Moves> Tabled<'a, M> {
         requires reversible { IsReversible (M.size moves.now) (M.moves moves.now) }
         ensures { IfOk result (λ t. t.moves.now ≡ moves.now) }
     {
-        let mut rows = Vec::new(alloc);
+        let mut rows = Vec::with_capacity(alloc, moves.count())?;
         for place in 0..moves.count() {
-            rows.push(steps_of(alloc, moves, place)?)?;
+            rows.push(moves.row(alloc, place)?)?;
         }
         Ok(Tabled { moves, rows })
     }

@@ -5,6 +5,8 @@
 mod pairs;
 mod pieces;
 mod states;
+#[cfg(test)]
+mod tests;
 
 pub use coset_states::StateFault;
 pub use pairs::answer_pairs;

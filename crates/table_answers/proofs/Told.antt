@@ -15,7 +15,7 @@ use Rattle.text_defs.specs.JahnTexts.{jahn_text}
 use Rattle.reduced_form.specs.declared.memory.SolveFault.{SolveFault}
 use Rattle.reduced_form.specs.declared.memory.SolveFault.TheVariants.{TooLarge, NoMemory}
 use Rattle.reduced_form.specs.Forms.{FormValue, form_table}
-use Rattle.table_answers.specs.Tables.{TellsTable}
+use Rattle.table_answers.specs.Tables.{TellsSame, TellsTable}
 
 pub ok_always : {T E P : Type 0} (r : Result T E) → P → OnOk r P
 ok_always (Ok x) p = p
@@ -34,6 +34,22 @@ pub table_grows : (j : JahnSymbol) (r : ℕ) (H : Operation → Type 0) (e : Sol
     e ≡ TooLarge → Grows j H index_before
 table_grows j r H TooLarge told is = told
 table_grows j r H NoMemory told is = cc
+
+-- an error of one of two tables
+pub first_fails : (j : JahnSymbol) (r : ℕ) (G H : Operation → Type 0) (e : SolveFault) → TellsTable j r G (Err e) →
+    TellsSame j G H (Err e)
+first_fails j r G H TooLarge told = inl told
+first_fails j r G H NoMemory told = tt
+
+pub second_fails : (j : JahnSymbol) (r : ℕ) (G H : Operation → Type 0) (e : SolveFault) → TellsTable j r H (Err e) →
+    TellsSame j G H (Err e)
+second_fails j r G H TooLarge told = inr told
+second_fails j r G H NoMemory told = tt
+
+pub same_grows : (j : JahnSymbol) (G H : Operation → Type 0) (e : SolveFault) → TellsSame j G H (Err e) →
+    e ≡ TooLarge → Grows j G index_before ⊎ Grows j H index_before
+same_grows j G H TooLarge told is = told
+same_grows j G H NoMemory told is = cc
 
 -- what is written where the sets admit the same tensors, or don't
 pub written_as : (P : Type 0) (Written : Bool → Type 0) (same : Bool) → IsTrue same ↔ P → Written same →

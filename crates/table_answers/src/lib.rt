@@ -9,3 +9,6 @@ mod solving;
 pub use forms::answer_form;
 pub use reduced_form::SolveFault;
 pub use sameness::answer_same;
+
+#[cfg(test)]
+mod tests;

@@ -33,7 +33,11 @@ pub fn admit_same<R: Rank>(
     requires other { AllOf (In other.now) IsPlain }
     ensures { (j : JahnSymbol) → IsShapeOf j R.R shape.now → TellsSame j (In one.now) (In other.now) result }
 {
-    let first = index_table(alloc, one, shape)?;
-    let second = index_table(alloc, other, shape)?;
-    Ok(first.same_form(&second))
+    match index_table(alloc, one, shape) {
+        Ok(first) => match index_table(alloc, other, shape) {
+            Ok(second) => Ok(first.same_form(&second)),
+            Err(fault) => Err(fault),
+        },
+        Err(fault) => Err(fault),
+    }
 }

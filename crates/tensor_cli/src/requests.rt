@@ -35,7 +35,10 @@ fn state_fault(fault: StateFault, f: &Named) -> NoAnswer
     ensures { IsStateFault fault f.now result }
 {
     match fault {
-        StateFault::NotSubgroup { first } => NoAnswer::Refused(Refusal::at(Word::NotSub(first), f.start)),
+        StateFault::NotSubgroup { first } => {
+            let word = Word::NotSub(first);
+            NoAnswer::Refused(Refusal::at(word, f.start))
+        }
         StateFault::NoMemory => NoAnswer::NoMemory,
     }
 }
@@ -56,13 +59,7 @@ fn elements(alloc: Global, line: &[u8], g: &Named, out: &mut Vec<u8>) -> Result<
 }
 
 /// The component table of the tensors that a group admits.
-fn form(
-    alloc: Global,
-    line: &[u8],
-    g: &Named,
-    j: Span,
-    out: &mut Vec<u8>,
-) -> Result<(), NoAnswer>
+fn form(alloc: Global, line: &[u8], g: &Named, j: Span, out: &mut Vec<u8>) -> Result<(), NoAnswer>
     requires some { 0 < length line.now }
     requires short { length line.now ≤ 1000 }
     requires asked { AsksForm line.now g.now j }
@@ -167,13 +164,7 @@ fn pairs(
 }
 
 /// The refusal of a request for a Voigt table.
-fn voigt(
-    alloc: Global,
-    line: &[u8],
-    g: &Named,
-    j: Span,
-    weights: Weights,
-) -> Result<(), NoAnswer>
+fn voigt(alloc: Global, line: &[u8], g: &Named, j: Span, weights: Weights) -> Result<(), NoAnswer>
     requires short { length line.now ≤ 1000 }
     requires asked { AsksVoigt line.now g.now j weights }
     ensures { IsErrAnd result (IsStop line.now) }
@@ -184,13 +175,7 @@ fn voigt(
 }
 
 /// The refusal of a request for the components that tell domain states apart.
-fn differ(
-    alloc: Global,
-    line: &[u8],
-    g: &Named,
-    f: &Named,
-    j: Span,
-) -> Result<(), NoAnswer>
+fn differ(alloc: Global, line: &[u8], g: &Named, f: &Named, j: Span) -> Result<(), NoAnswer>
     requires short { length line.now ≤ 1000 }
     requires asked { AsksDiffer line.now g.now f.now j }
     ensures { IsErrAnd result (IsStop line.now) }

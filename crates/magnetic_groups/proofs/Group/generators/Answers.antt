@@ -1,4 +1,4 @@
-use Rattle.std.proofs.Common.{◌↔◌, Contains, ◌≡◌, List, sym, subst}
+use Rattle.std.proofs.Common.{◌↔◌, Contains, List, sym, subst}
 use Rattle.tensor_defs.specs.Operation.{Operation}
 use Rattle.tensor_defs.specs.Frames.{AllOf}
 use Rattle.magnetic_groups.specs.Sets.{In, Spanned}

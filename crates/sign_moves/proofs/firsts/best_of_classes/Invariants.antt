@@ -1,4 +1,3 @@
-use Rattle.std.proofs.Common.{◌≡◌, ℕ}
 use Rattle.sign_moves.specs.Best.{IsBestUpTo}
 use Rattle.sign_moves.proofs.firsts.best_of_classes.Given as goal
 

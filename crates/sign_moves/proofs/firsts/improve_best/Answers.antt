@@ -1,6 +1,4 @@
-use Rattle.std.proofs.Common.{◌≡◌, ◌<◌, ℕ, true, refl, ap, sym, ◌∙◌}
-use Rattle.sign_moves.specs.Best.{best_at}
-use Rattle.sign_moves.specs.Classes.{first_at}
+use Rattle.std.proofs.Common.{refl, sym, ◌∙◌}
 use Rattle.sign_moves.proofs.BestLaws.{best_taken}
 use Rattle.sign_moves.proofs.firsts.improve_best.Goals as goal
 

@@ -1,5 +1,6 @@
-use Rattle.std.proofs.Common.{◌≡◌, ◌++◌, Bool}
+use Rattle.std.proofs.Common.{◌≡◌, ◌++◌, ◌⊎◌, Bool, inl, inr}
 use Rattle.std.proofs.lemmas.Result.{on_ok_weaker}
+use Rattle.tensor_defs.specs.Elimination.{Grows}
 use Rattle.tensor_defs.specs.Group.{InGroup}
 use Rattle.tensor_defs.specs.Jahn.{AdmitSame}
 use Rattle.tensor_defs.specs.Orders.{index_before}
@@ -7,7 +8,7 @@ use Rattle.text_defs.specs.AnswerTexts.{same_text}
 use Rattle.jahn_grammar.specs.Symbols.{symbol_of}
 use Rattle.magnetic_groups.specs.Sets.{In}
 use Rattle.table_answers.proofs.SetLaws.{admitted_same, grows_same, same_back}
-use Rattle.table_answers.proofs.Told.{ok_always, written_as}
+use Rattle.table_answers.proofs.Told.{ok_always, same_grows, written_as}
 use Rattle.table_answers.proofs.sameness.answer_same.Goals as goal
 
 pub returns-in-Ok-clause-ok : goal.returns-in-Ok-clause-ok
@@ -40,3 +41,15 @@ returns-in-Ok-clause-calm_other c =
     let H = InGroup c.args.h.now in
     ok_always c.write_same.result (λ w.
     c.in-Ok.ensures.2 (grows_same (symbol_of c.args.jahn.now) H other index_before (same_back other H c.requires.other.members) w))
+
+pub returns-in-Err-clause-grows : goal.returns-in-Err-clause-grows
+returns-in-Err-clause-grows c = λ large.
+    let j = symbol_of c.args.jahn.now in
+    let one = In c.args.one.now in
+    let other = In c.args.other.now in
+    let G = InGroup c.args.g.now in
+    let H = InGroup c.args.h.now in
+    elim (same_grows j one other c.in-Err.fault c.in-Err.ensures large) as (λ _. Grows j G index_before ⊎ Grows j H index_before) [
+      | inl w ↦ inl (grows_same j one G index_before c.requires.one.members w)
+      | inr w ↦ inr (grows_same j other H index_before c.requires.other.members w)
+    ]

@@ -68,8 +68,7 @@ returns-clause-stop c =
     table_stop c.args.line.now (Same (group_at c.args.g.now) (group_at c.args.h.now) (jahn_at c.args.j tree)) c.args.j tree
     c.in-Err.fault c.table_fault.result c.requires.short
     (asked_at c.args.line.now c.args.j (λ b. Same (group_at c.args.g.now) (group_at c.args.h.now) b) tree
-    c.requires.asked.2 c.in_ok-jahn.ensures.jahn)
-    (
+    c.requires.asked.2 c.in_ok-jahn.ensures.jahn) (
       all_of_group c.args.g.now.tree c.in_ok-one.one IsPlain c.in_ok-one.ensures.group plain.0,
       all_of_group c.args.h.now.tree c.in_ok-other.other IsPlain c.in_ok-other.ensures.group plain.1,
     )

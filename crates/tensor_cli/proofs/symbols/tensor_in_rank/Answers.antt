@@ -6,6 +6,8 @@ returns-in-Ok-clause-jahn c =
     λ b t. tensor_told c.args.line.now c.args.span c.in-Ok.jahn b c.in-Ok.ensures t
 
 pub returns-in-Err-Rank-clause-refused : goal.returns-in-Err-Rank-clause-refused
-returns-in-Err-Rank-clause-refused c =
-    (c.at.ensures, λ b t. over_told c.args.line.now c.args.span b
-    (rw (c.in-Err-Rank.field-0-is) at c.in-Err-Rank.ensures) t)
+returns-in-Err-Rank-clause-refused c = (
+  c.at.ensures,
+  λ b t. over_told c.args.line.now c.args.span b
+      (rw (c.in-Err-Rank.field-0-is) at c.in-Err-Rank.ensures) t,
+)

@@ -1,6 +1,5 @@
-use Rattle.std.proofs.Common.{rules, ◌≡◌, ℕ, ◌<◌, length, map, List, [], get_or, ap, sym, ◌∙◌, subst, arith}
+use Rattle.std.proofs.Common.{rules, ◌≡◌, ℕ, ◌<◌, length, map, List, [], ap, sym, ◌∙◌, subst}
 use Rattle.std.proofs.lemmas.List.{get_or-map, get_or_default, length-map}
-use Rattle.std.specs.Vec.{vec_len}
 use Rattle.sign_moves.specs.Moves.{Moves}
 use Rattle.sign_moves.specs.declared.tabled.Step.{Step}
 use Rattle.sign_moves.specs.Tabling.{IsStepRow, IsTabled, step_at, steps_at}

@@ -1,0 +1,167 @@
+-- What a diagonal operation does to a component.
+use Rattle.std.proofs.Common.{◌≡◌, ◌≢◌, ℕ, zero, suc, ◌+◌, ◌*◌, ◌<◌, ◌^◌, Bool, true, false, cond, List, [], ◌∷◌, ◌++◌, length, get_or, refl, ap, sym, ◌∙◌, arith, subst, inl, inr, ◌↔◌, ◌⊎◌}
+use Rattle.std.specs.Prelude.{Contains, IsTrue}
+use Rattle.std.proofs.lemmas.Bool.{cases_lt}
+use Rattle.std.proofs.lemmas.List.{get_or_append_left, get_or_default, get_or_push}
+use Rattle.number_laws.proofs.NumberLaws.{num_one-mul, num_mul_assoc, num_mul_comm, num_mul_left_comm, num_neg-neg}
+use Rattle.tensor_defs.specs.Frames.{IsDiagonal, IsPlain, IsUnit, OneUnit}
+use Rattle.tensor_defs.specs.Jahn.{Bracket, IsExchange, JahnSymbol}
+use Rattle.tensor_defs.specs.Number.{Number, mul, neg, num_zero, num_one}
+use Rattle.tensor_defs.specs.Operation.{Axis, x1, x2, x3, Operation, entry, nought, value, identity}
+use Rattle.tensor_defs.specs.Tensor.{Index, Marks, axis_place, axis_at, coefficient, index_of, sign}
+use Rattle.tensor_defs.specs.declared.Sign.{Sign}
+use Rattle.tensor_defs.specs.declared.Sign.TheVariants.{Plus, Minus}
+use Rattle.magnetic_groups.specs.Sets.{In}
+use Rattle.sign_moves.specs.declared.classes.Entry.{Entry}
+use Rattle.sign_moves.specs.Classes.{entry_at}
+use Rattle.sign_moves.specs.Signs.{signed, times}
+use Rattle.sign_moves.proofs.SignLaws.{own_negative, one_not_zero, sign_not_zero, signed-signed}
+use Rattle.tensor_rank.specs.Carried.{Carried, rests, steps}
+use Rattle.constraint_rows.specs.declared.ops.PlainOp.{PlainOp}
+use Rattle.constraint_rows.specs.Classes.{GroupStep, exchange, turn}
+use Rattle.constraint_rows.specs.Marking.{Kills, Turns}
+use Rattle.constraint_rows.specs.PlainOps.{StandsFor, image, op_sign}
+use Rattle.constraint_rows.specs.WordRows.{IsKilled}
+use Rattle.constraint_rows.proofs.AxisLaws.{axis_at-place}
+use Rattle.constraint_rows.proofs.OpIndex.{moved, coefficient_own, coefficient_other, list_signs, sign_number, signed_mul}
+use Rattle.constraint_rows.proofs.StandLaws.{zero_number}
+
+-- ---- a diagonal operation is plain
+module _ (g : Operation) (d : IsDiagonal g) where
+  own_unit : (i : Axis) → IsUnit (entry g i i)
+  own_unit i = elim (d i i) as (λ _. IsUnit (entry g i i)) [ inl p ↦ p.1 | inr p ↦ absurd (p.0 refl) ]
+
+  off_zero : (i j : Axis) → i ≢ j → entry g i j ≡ nought
+  off_zero i j n = elim (d i j) as (λ _. entry g i j ≡ nought) [ inl p ↦ absurd (n p.0) | inr p ↦ p.1 ]
+
+  pub diagonal_plain : IsPlain g
+  diagonal_plain = record { rows = rows; columns = columns }
+    where
+      rows : (i : Axis) → OneUnit (entry g i x1) (entry g i x2) (entry g i x3)
+      rows x1 = inl (own_unit x1, off_zero x1 x2 (λ e. cc), off_zero x1 x3 (λ e. cc))
+      rows x2 = inr (inl (off_zero x2 x1 (λ e. cc), own_unit x2, off_zero x2 x3 (λ e. cc)))
+      rows x3 = inr (inr (off_zero x3 x1 (λ e. cc), off_zero x3 x2 (λ e. cc), own_unit x3))
+
+      columns : (j : Axis) → OneUnit (entry g x1 j) (entry g x2 j) (entry g x3 j)
+      columns x1 = inl (own_unit x1, off_zero x2 x1 (λ e. cc), off_zero x3 x1 (λ e. cc))
+      columns x2 = inr (inl (off_zero x1 x2 (λ e. cc), own_unit x2, off_zero x3 x2 (λ e. cc)))
+      columns x3 = inr (inr (off_zero x1 x3 (λ e. cc), off_zero x2 x3 (λ e. cc), own_unit x3))
+
+-- ---- it carries each component to itself
+module _ {m : Marks} {g : Operation} {p : PlainOp} (d : IsDiagonal g) (h : StandsFor m g p) where
+  off_value : (i j : Axis) → i ≢ j → value g i j ≡ num_zero
+  unfolding value
+  off_value i j n = zero_number (entry g i j) (off_zero g d i j n)
+
+  own_column : (i : Axis) → axis_at (image p (axis_place i)) ≡ i
+  own_column i = by (axis_at (image p (axis_place i))) refl
+    where
+      at : (j : Axis) → axis_at (image p (axis_place i)) ≡ j → i ≢ j → ⊥
+      at j e n = sign_not_zero _ (sym (h.entry i) ∙ ap (value g i) e ∙ off_value i j n)
+
+      decide : (i j : Axis) → (i ≢ j → ⊥) → j ≡ i
+      decide x1 x1 f = refl
+      decide x1 x2 f = absurd (f (λ e. cc))
+      decide x1 x3 f = absurd (f (λ e. cc))
+      decide x2 x1 f = absurd (f (λ e. cc))
+      decide x2 x2 f = refl
+      decide x2 x3 f = absurd (f (λ e. cc))
+      decide x3 x1 f = absurd (f (λ e. cc))
+      decide x3 x2 f = absurd (f (λ e. cc))
+      decide x3 x3 f = refl
+
+      by : (j : Axis) → axis_at (image p (axis_place i)) ≡ j → axis_at (image p (axis_place i)) ≡ i
+      by j e = e ∙ decide i j (at j e)
+
+  own_moved : (is : Index) → moved p is ≡ is
+  own_moved [] = refl
+  own_moved (i ∷ is) = λ n. own_column i n ∷ own_moved is n
+
+  pub own_coefficient : (r c : ℕ) → c < 3 ^ r → mul (sign m g) (coefficient g (index_of r c) (index_of r c)) ≡ signed (op_sign r p c) num_one
+  own_coefficient r c l =
+      (λ n. mul (h.whole n) ((ap (coefficient g (index_of r c)) (sym (own_moved (index_of r c))) ∙ coefficient_own h (index_of r c)) n))
+      ∙ signed_mul p.whole (signed (list_signs p (index_of r c)) num_one)
+      ∙ signed-signed p.whole (list_signs p (index_of r c)) num_one
+      ∙ ap (λ s. signed s num_one) (sign_number h r c l)
+
+one_not_minus : num_one ≡ neg num_one → ⊥
+one_not_minus e = one_not_zero (own_negative num_one e)
+
+pub turns_by : {m : Marks} {g : Operation} {p : PlainOp} → IsDiagonal g → StandsFor m g p → (n r c : ℕ) → n ≡ 3 ^ r → c < n →
+    op_sign r p c ≡ Minus → Turns m (index_of r c) g
+turns_by {m} {g} {p} d h n r c size l e = record {
+  turns = own_coefficient d h r c (subst (λ x. c < x) size l) ∙ ap (λ s. signed s num_one) e;
+}
+
+pub not_turns_by : {m : Marks} {g : Operation} {p : PlainOp} → IsDiagonal g → StandsFor m g p → (n r c : ℕ) → n ≡ 3 ^ r → c < n →
+    op_sign r p c ≡ Plus → Turns m (index_of r c) g → ⊥
+not_turns_by {m} {g} {p} d h n r c size l e t =
+    one_not_minus (sym (own_coefficient d h r c (subst (λ x. c < x) size l) ∙ ap (λ s. signed s num_one) e) ∙ t.turns)
+
+-- ---- an exchange of blocks leaves the coefficient from a component to itself
+abbrev own : Operation → Index → Number
+own g is = coefficient g is is
+
+own-append : (g : Operation) (a b : Index) → own g (a ++ b) ≡ mul (own g a) (own g b)
+own-append g [] b = sym (num_one-mul (own g b))
+own-append g (i ∷ a) b = ap (mul (value g i i)) (own-append g a b) ∙ sym (num_mul_assoc (value g i i) (own g a) (own g b))
+
+own_five : (g : Operation) (a u k v z : Index) →
+    own g (a ++ u ++ k ++ v ++ z) ≡ mul (mul (mul (mul (own g a) (own g u)) (own g k)) (own g v)) (own g z)
+own_five g a u k v z =
+    own-append g (a ++ u ++ k ++ v) z
+    ∙ ap (λ x. mul x (own g z)) (own-append g (a ++ u ++ k) v
+    ∙ ap (λ x. mul x (own g v)) (own-append g (a ++ u) k ∙ ap (λ x. mul x (own g k)) (own-append g a u)))
+
+swap_two : (a u k v : Number) → mul (mul (mul a u) k) v ≡ mul (mul (mul a v) k) u
+swap_two a u k v = simp (num_mul_assoc, num_mul_left_comm, num_mul_comm)
+
+own_exchanged : (g : Operation) {r : ℕ} {b : Bracket} {is js : Index} → IsExchange r b is js → own g is ≡ own g js
+own_exchanged g x =
+    ap (own g) x.was ∙ own_five g x.before x.u x.between x.v x.after
+    ∙ ap (λ y. mul y (own g x.after)) (swap_two (own g x.before) (own g x.u) (own g x.between) (own g x.v))
+    ∙ sym (own_five g x.before x.v x.between x.u x.after) ∙ ap (own g) (sym x.becomes)
+
+pub own_carried : (j : JahnSymbol) (g : Operation) {c d : Index} → Carried (GroupStep j (In [])) c d → own g c ≡ own g d
+own_carried j g rests = refl
+own_carried j g (steps (exchange x) rest) = own_exchanged g x.exchange ∙ own_carried j g rest
+own_carried j g (steps (turn k is n away) rest) = absurd (omega (arith, is.1))
+
+pub killed_along : {m : Marks} {H : Operation → Type 0} {c d : Index} → ((g : Operation) → coefficient g c c ≡ coefficient g d d) →
+    IsKilled m H c → IsKilled m H d
+killed_along {m} {H} {c} {d} same h = record {
+  element = h.element;
+  inside = h.inside;
+  diagonal = h.diagonal;
+  turns = ap (mul (sign m h.element)) (sym (same h.element)) ∙ h.turns;
+}
+
+-- ---- an element of a list kills
+pub killed_at : (m : Marks) (hs : List Operation) (c : Index) (k : ℕ) → k < length hs → Kills m c (get_or hs k identity) → IsKilled m (In hs) c
+killed_at m hs c k l h = record {
+  element = get_or hs k identity;
+  inside = (k, l, get_or_default hs k (get_or hs k identity) identity l);
+  diagonal = h.diagonal;
+  turns = h.turns.turns;
+}
+
+pub killed_none : (m : Marks) (hs : List Operation) (c : Index) →
+    ((k : ℕ) → k < length hs → Kills m c (get_or hs k identity) → ⊥) → IsKilled m (In hs) c → ⊥
+killed_none m hs c none h =
+    let k = h.inside.0 in
+    let at : get_or hs k identity ≡ h.element = get_or_default hs k identity h.element h.inside.1 ∙ h.inside.2 in
+    none k h.inside.1 (subst (Kills m c) (sym at) (record { diagonal = h.diagonal; turns = record { turns = h.turns } }))
+
+-- what holds of each entry and of one more
+pub entry_more : (P : ℕ → Entry → Type 0) (es : List Entry) (e : Entry) (n : ℕ) → length es ≡ n → ((k : ℕ) → k < n → P k (entry_at es k)) →
+    P n e → (k : ℕ) → k < n + 1 → P k (entry_at (es ++ e ∷ []) k)
+entry_more P es e n len each last k h =
+    let none : Entry = record { first = 0; sign = Plus; vanishes = false } in
+    elim (cases_lt k n) as (λ _. P k (entry_at (es ++ e ∷ []) k)) [
+      | inl l ↦
+          let inside : k < length es = omega (arith, len, l) in
+          subst (P k) (sym (get_or_append_left es (e ∷ []) none k inside)) (each k l)
+      | inr l ↦
+          let same : n ≡ k = omega (arith, h, l) in
+          subst (P k) (sym (get_or_push es e none k (len ∙ same))) (subst (λ i. P i e) same last)
+    ]

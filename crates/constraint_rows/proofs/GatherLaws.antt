@@ -1,0 +1,370 @@
+-- Parts of rows, with a number added at a component.
+use Rattle.std.proofs.Common.{◌≡◌, ◌≢◌, ℕ, zero, suc, ◌+◌, ◌%◌, ◌^◌, ◌<◌, ◌≤◌, Bool, true, false, cond, List, [], ◌∷◌, ◌++◌, length, get_or, take, drop, refl, ap, sym, ◌∙◌, arith, subst, inl, inr, eq-eqb}
+use Rattle.std.specs.Prelude.{IsTrue, eqb, insert, nat_eq, unsigned_abs, Option, Some, None}
+use Rattle.std.proofs.lemmas.Bool.{eqb-true}
+use Rattle.std.proofs.lemmas.List.{set_split, take_more, length-take-le}
+use Rattle.std.proofs.Math.ListN.{set}
+use Rattle.std.proofs.lemmas.Int.{ints}
+use lib.IntN.{ℤ, pos, negsuc, ◌+ℤ◌, ◌*ℤ◌}
+use Rattle.number_laws.proofs.NumberLaws.{num_add-zero, num_zero-add, num_add_left_comm, num_add_assoc}
+use Rattle.tensor_defs.specs.IntRing.{mul-one_ℤ}
+use Rattle.tensor_defs.specs.Lists.{Each, IsRising}
+use Rattle.tensor_defs.specs.Number.{Number, Triple, add, add_at, num_zero, whole, same_numbers}
+use Rattle.tensor_defs.specs.declared.Sign.{Sign}
+use Rattle.tensor_defs.specs.declared.Sign.TheVariants.{Plus, Minus}
+use Rattle.tensor_defs.specs.Tensor.{component_number, index_of}
+use Rattle.tensor_laws.proofs.ComponentNumbers.{length-index_of, number-index_of}
+use Rattle.tensor_rank.specs.Orders.{Ordering, before_at}
+use Rattle.tensor_rank.specs.StrictOrders.{orders_are_orders, orders_strict}
+use Rattle.sign_moves.specs.declared.classes.Entry.{Entry}
+use Rattle.sign_moves.specs.Signs.{times}
+use Rattle.sign_moves.proofs.EngineLaws.{bool_cases}
+use Rattle.constraint_rows.specs.Classes.{class_at}
+use Rattle.constraint_rows.specs.Gathering.{AreSmallParts, AreTermsBelow, IsPlaceFor, added, added_here, class_added, counted_at, gathered, is_nothing, part, part_at_place, term_added, turn_sign, unit, with_front}
+use Rattle.constraint_rows.specs.WordRows.{AreParts, AreSound, IsOwn, part_at, parts_rise, row_at}
+use Rattle.constraint_rows.specs.declared.rows.Part.{Part}
+use Rattle.constraint_rows.specs.declared.words.Term.{Term}
+
+nat_differ : (a b : ℕ) → a ≢ b → nat_eq a b ≡ false
+nat_differ a b n = elim (bool_cases (nat_eq a b)) as (λ _. nat_eq a b ≡ false) [
+  | inl e ↦ absurd (n (eqb-true a b e))
+  | inr e ↦ e
+]
+
+-- ---- by the place of the component
+module _ (before : ℕ → ℕ → Bool) (d : ℕ) (k : ℤ) where
+  added_new_at : (ps : List Part) (i : ℕ) → i ≤ length ps → ((n : ℕ) → n < i → before (part_at_place ps n).component d ≡ true) →
+      (i < length ps → before (part_at_place ps i).component d ≡ false) → (i < length ps → (part_at_place ps i).component ≢ d) →
+      added before d k ps ≡ insert ps i (part d k)
+  added_new_at [] zero small all stop other = refl
+  added_new_at [] (suc i) small all stop other = absurd (omega arith)
+  added_new_at (p ∷ ps) zero small all stop other =
+      ap (λ b. cond b (p ∷ added before d k ps) (added_here d k p ps)) (stop (omega arith))
+      ∙ ap (λ b. cond b (with_front d (p.number +ℤ k) ps) (part d k ∷ p ∷ ps)) (nat_differ p.component d (other (omega arith)))
+  added_new_at (p ∷ ps) (suc i) small all stop other =
+      ap (λ b. cond b (p ∷ added before d k ps) (added_here d k p ps)) (all 0 (omega arith))
+      ∙ ap (λ qs. p ∷ qs) (added_new_at ps i (omega arith) (λ n h. all (suc n) (omega arith)) (λ h. stop (omega arith)) (λ h. other (omega arith)))
+
+  added_old_at : (ps : List Part) (i : ℕ) → i < length ps → ((n : ℕ) → n < i → before (part_at_place ps n).component d ≡ true) →
+      (i < length ps → before (part_at_place ps i).component d ≡ false) → (part_at_place ps i).component ≡ d →
+      added before d k ps ≡ counted_at ps i k
+  added_old_at [] i small all stop same = absurd (omega arith)
+  added_old_at (p ∷ ps) zero small all stop same =
+      ap (λ b. cond b (p ∷ added before d k ps) (added_here d k p ps)) (stop small)
+      ∙ ap (λ b. cond b (with_front d (p.number +ℤ k) ps) (part d k ∷ p ∷ ps)) (eq-eqb p.component d same)
+      ∙ ap (λ c. with_front c (p.number +ℤ k) ps) (sym same)
+  added_old_at (p ∷ ps) (suc i) small all stop same =
+      ap (λ b. cond b (p ∷ added before d k ps) (added_here d k p ps)) (all 0 (omega arith))
+      ∙ ap (λ qs. p ∷ qs) (added_old_at ps i (omega arith) (λ n h. all (suc n) (omega arith)) (λ h. stop (omega arith)) same)
+
+  pub added_new : (ps : List Part) (i : ℕ) → IsPlaceFor before d ps i → (i < length ps → (part_at_place ps i).component ≢ d) →
+      added before d k ps ≡ insert ps i (part d k)
+  added_new ps i h other = added_new_at ps i h.within h.all h.stop other
+
+  pub added_old : (ps : List Part) (i : ℕ) → IsPlaceFor before d ps i → i < length ps → (part_at_place ps i).component ≡ d →
+      added before d k ps ≡ counted_at ps i k
+  added_old ps i h small same = added_old_at ps i small h.all h.stop same
+
+pub each_at_place : (P : Part → Type 0) (ps : List Part) → Each P ps → (k : ℕ) → k < length ps → P (part_at_place ps k)
+each_at_place P [] e k h = absurd (omega arith)
+each_at_place P (p ∷ ps) e zero h = e.0
+each_at_place P (p ∷ ps) e (suc k) h = each_at_place P ps e.1 k (omega arith)
+
+pub counted_kept : (ps : List Part) (i : ℕ) (p : Part) (z k : ℤ) → i < length ps → p ≡ part_at_place ps i → z ≡ p.number +ℤ k → z ≢ pos 0 →
+    set ps i (part p.component z) ≡ counted_at ps i k
+counted_kept ps i p z k h at is other =
+    let q : Part = part_at_place ps i in
+    let sum : z ≡ q.number +ℤ k = is ∙ ap (λ x. x.number +ℤ k) at in
+    set_split ps i (part p.component z) h
+    ∙ (λ n. take i ps ++ part (at n).component (sum n) ∷ drop (suc i) ps)
+    ∙ sym (ap (λ b. take i ps ++ cond b (drop (suc i) ps) (part q.component (q.number +ℤ k) ∷ drop (suc i) ps)) (some (q.number +ℤ k) (λ e. other (sum ∙ e))))
+  where
+    some : (x : ℤ) → x ≢ pos 0 → is_nothing x ≡ false
+    some (pos n) m = nat_differ n 0 (λ e. m (ap pos e))
+    some (negsuc n) m = refl
+
+-- ---- what holds of each part
+each_map : (P Q : Part → Type 0) → ((p : Part) → P p → Q p) → (ps : List Part) → Each P ps → Each Q ps
+each_map P Q f [] e = tt
+each_map P Q f (p ∷ ps) e = (f p e.0, each_map P Q f ps e.1)
+
+module _ (before : ℕ → ℕ → Bool) (d : ℕ) (k : ℤ) where
+  each_changed : (P Q : Part → Type 0) → ((p : Part) → P p → Q p) → Q (part d k) →
+      ((p : Part) → P p → p.component ≡ d → is_nothing (p.number +ℤ k) ≡ false → Q (part d (p.number +ℤ k))) →
+      (ps : List Part) → Each P ps → Each Q (added before d k ps)
+  each_changed P Q kept new changed [] e = (new, tt)
+  each_changed P Q kept new changed (p ∷ ps) e = by_order (each_changed P Q kept new changed ps e.1) (before p.component d)
+    where
+      rest : Each Q ps
+      rest = each_map P Q kept ps e.1
+
+      by_zero : p.component ≡ d → (z : Bool) → is_nothing (p.number +ℤ k) ≡ z → Each Q (cond z ps (part d (p.number +ℤ k) ∷ ps))
+      by_zero same true h = rest
+      by_zero same false h = (changed p e.0 same h, rest)
+
+      by_same : (b : Bool) → nat_eq p.component d ≡ b → Each Q (cond b (with_front d (p.number +ℤ k) ps) (part d k ∷ p ∷ ps))
+      by_same true h = by_zero (eqb-true p.component d h) (is_nothing (p.number +ℤ k)) refl
+      by_same false h = (new, (kept p e.0, rest))
+
+      by_order : Each Q (added before d k ps) → (b : Bool) → Each Q (cond b (p ∷ added before d k ps) (added_here d k p ps))
+      by_order more true = (kept p e.0, more)
+      by_order more false = by_same (nat_eq p.component d) refl
+
+  each_added : (P : Part → Type 0) → P (part d k) →
+      ((p : Part) → P p → p.component ≡ d → is_nothing (p.number +ℤ k) ≡ false → P (part d (p.number +ℤ k))) →
+      (ps : List Part) → Each P ps → Each P (added before d k ps)
+  each_added P new changed = each_changed P P (λ p h. h) new changed
+
+-- ---- a strict order that is total below n
+pub record IsTotalBelow (n : ℕ) (before : ℕ → ℕ → Bool) : Type 0 where
+  pub transitive : (a b c : ℕ) → before a b ≡ true → before b c ≡ true → before a c ≡ true
+  pub total : (a b : ℕ) → a < n → b < n → a ≢ b → before a b ≡ false → before b a ≡ true
+
+module _ (n : ℕ) (before : ℕ → ℕ → Bool) (order : IsTotalBelow n before) (d : ℕ) (small : d < n) (k : ℤ) where
+  rising_added : (ps : List Part) → AreParts n ps → IsRising (parts_rise before) ps → IsRising (parts_rise before) (added before d k ps)
+  rising_added [] a r = (tt, tt)
+  rising_added (p ∷ ps) a r = by_order (rising_added ps a.1 r.1) (before p.component d) refl
+    where
+      by_zero : p.component ≡ d → (z : Bool) → IsRising (parts_rise before) (cond z ps (part d (p.number +ℤ k) ∷ ps))
+      by_zero same true = r.1
+      by_zero same false = (subst (λ c. Each (λ q. IsTrue (before c q.component)) ps) same r.0, r.1)
+
+      by_same : before p.component d ≡ false → (b : Bool) → nat_eq p.component d ≡ b →
+          IsRising (parts_rise before) (cond b (with_front d (p.number +ℤ k) ps) (part d k ∷ p ∷ ps))
+      by_same off true h = by_zero (eqb-true p.component d h) (is_nothing (p.number +ℤ k))
+      by_same off false h =
+          let apart : p.component ≢ d = λ e. differ_not p.component d e h in
+          let ahead : before d p.component ≡ true = order.total p.component d a.0.0 small apart off in (
+            (
+              ahead,
+              each_map (λ q. IsTrue (before p.component q.component)) (λ q. IsTrue (before d q.component))
+                  (λ q m. order.transitive d p.component q.component ahead m) ps r.0,
+            ),
+            r,
+          )
+        where
+          differ_not : (x y : ℕ) → x ≡ y → nat_eq x y ≡ false → ⊥
+          differ_not x y e f = let t : true ≡ false = sym (eq-eqb x y e) ∙ f in cc
+
+      by_order : IsRising (parts_rise before) (added before d k ps) → (b : Bool) → before p.component d ≡ b →
+          IsRising (parts_rise before) (cond b (p ∷ added before d k ps) (added_here d k p ps))
+      by_order more true h =
+          (each_added before d k (λ q. IsTrue (before p.component q.component)) h (λ q m same nz. h) ps r.0, more)
+      by_order more false h = by_same h (nat_eq p.component d) refl
+
+-- orders of components are such orders
+pub order_total : (n r : ℕ) → n ≡ 3 ^ r → (o : Ordering) → IsTotalBelow n (before_at r o)
+order_total n r size o = record {
+  transitive = (orders_strict r o).transitive;
+  total = λ a b h l apart off.
+      let a_is : component_number (index_of r a) ≡ a = number-index_of r a (subst (λ m. a < m) size h) in
+      let b_is : component_number (index_of r b) ≡ b = number-index_of r b (subst (λ m. b < m) size l) in
+      elim ((orders_are_orders r o).total (index_of r a) (index_of r b) (length-index_of r a) (length-index_of r b)
+      (λ e. apart (sym a_is ∙ ap component_number e ∙ b_is))) as (λ _. before_at r o b a ≡ true) [
+        | inl t ↦ (let f : true ≡ false = sym t ∙ off in cc)
+        | inr t ↦ t
+      ];
+}
+
+-- ---- what the parts have at a component
+pub whole-add : (a b : ℤ) → add (whole a) (whole b) ≡ whole (a +ℤ b)
+unfolding add whole
+whole-add a b = same_numbers _ _ (record { same_p = first a b; same_q = refl })
+  where
+    first : (a b : ℤ) → ((a *ℤ pos 1) +ℤ (b *ℤ pos 1)) *ℤ pos 1 ≡ (a +ℤ b) *ℤ pos 1
+    first a b = simp mul-one_ℤ
+
+nothing_is : (z : ℤ) → is_nothing z ≡ true → z ≡ pos 0
+nothing_is (pos n) h = ap pos (eqb-true n 0 h)
+nothing_is (negsuc n) h = cc
+
+pub part_is : (p : Part) (c : ℕ) → part_at p c ≡ cond (nat_eq c p.component) (whole p.number) num_zero
+unfolding part_at
+part_is p c = refl
+
+part_sum : (d c : ℕ) (a b : ℤ) → add (part_at (part d a) c) (part_at (part d b) c) ≡ part_at (part d (b +ℤ a)) c
+unfolding part_at
+part_sum d c a b = by (nat_eq c d)
+  where
+    swap : (a b : ℤ) → a +ℤ b ≡ b +ℤ a
+    swap a b = omega (arith, ints)
+
+    by : (t : Bool) → add (cond t (whole a) num_zero) (cond t (whole b) num_zero) ≡ cond t (whole (b +ℤ a)) num_zero
+    by true = whole-add a b ∙ ap whole (swap a b)
+    by false = num_zero-add num_zero
+
+nothing_part : (d c : ℕ) (z : ℤ) → z ≡ pos 0 → part_at (part d z) c ≡ num_zero
+unfolding part_at
+nothing_part d c z h = by (nat_eq c d)
+  where
+    by : (t : Bool) → cond t (whole z) num_zero ≡ num_zero
+    by true = ap whole h
+    by false = refl
+
+module _ (before : ℕ → ℕ → Bool) (d : ℕ) (k : ℤ) (c : ℕ) where
+  pub row_at-added : (ps : List Part) → row_at (added before d k ps) c ≡ add (part_at (part d k) c) (row_at ps c)
+  row_at-added [] = refl
+  row_at-added (p ∷ ps) = by_order (row_at-added ps) (before p.component d)
+    where
+      goes : Number
+      goes = add (part_at (part d k) c) (add (part_at p c) (row_at ps c))
+
+      joined : p.component ≡ d → add (part_at (part d (p.number +ℤ k)) c) (row_at ps c) ≡ goes
+      joined same =
+          ap (λ x. add x (row_at ps c)) (sym (part_sum d c k p.number)
+          ∙ ap (λ e. add (part_at (part d k) c) (part_at (part e p.number) c)) (sym same))
+          ∙ num_add_assoc (part_at (part d k) c) (part_at p c) (row_at ps c)
+
+      by_zero : p.component ≡ d → (z : Bool) → is_nothing (p.number +ℤ k) ≡ z → row_at (cond z ps (part d (p.number +ℤ k) ∷ ps)) c ≡ goes
+      by_zero same true h =
+          sym (num_zero-add (row_at ps c))
+          ∙ ap (λ x. add x (row_at ps c)) (sym (nothing_part d c (p.number +ℤ k) (nothing_is (p.number +ℤ k) h))) ∙ joined same
+      by_zero same false h = joined same
+
+      by_same : (b : Bool) → nat_eq p.component d ≡ b → row_at (cond b (with_front d (p.number +ℤ k) ps) (part d k ∷ p ∷ ps)) c ≡ goes
+      by_same true h = by_zero (eqb-true p.component d h) (is_nothing (p.number +ℤ k)) refl
+      by_same false h = refl
+
+      by_order : row_at (added before d k ps) c ≡ add (part_at (part d k) c) (row_at ps c) → (b : Bool) →
+          row_at (cond b (p ∷ added before d k ps) (added_here d k p ps)) c ≡ goes
+      by_order more true = ap (add (part_at p c)) more ∙ num_add_left_comm (part_at p c) (part_at (part d k) c) (row_at ps c)
+      by_order more false = by_same (nat_eq p.component d) refl
+
+-- ---- parts gathered from terms
+unit_small : (s : Sign) → unsigned_abs (unit s) ≤ 1
+unit_small Plus = omega arith
+unit_small Minus = omega arith
+
+unit_not_nothing : (s : Sign) → unit s ≢ pos 0
+unit_not_nothing Plus e = cc
+unit_not_nothing Minus e = cc
+
+not_nothing : (z : ℤ) → is_nothing z ≡ false → z ≢ pos 0
+not_nothing z h e = let t : true ≡ false = ap is_nothing (sym e) ∙ h in cc
+
+abs_more : (z : ℤ) (s : Sign) (k : ℕ) → unsigned_abs z ≤ k → unsigned_abs (z +ℤ unit s) ≤ k + 1
+abs_more z Plus k h = omega (arith, ints)
+abs_more z Minus k h = omega (arith, ints)
+
+pub record IsGathering (n : ℕ) (before : ℕ → ℕ → Bool) (es : List Entry) (k : ℕ) (ps : List Part) : Type 0 where
+  pub parts : AreParts n ps
+  pub rising : IsRising (parts_rise before) ps
+  pub own : Each (λ p. IsOwn es p.component) ps
+  pub small : Each (λ p. unsigned_abs p.number ≤ k) ps
+
+-- what a term gives to a component
+abbrev pub class_part : Option (ℕ × Sign) → Sign → ℕ → Number
+class_part None s c = num_zero
+class_part (Some x) s c = part_at (part x.0 (unit (times x.1 s))) c
+
+abbrev pub term_part : List Entry → ℕ → ℕ → ℕ → ℕ → Number
+term_part es b c n q = cond (nat_eq (q % 2) b) (class_part (class_at es n) (turn_sign q) c) num_zero
+
+abbrev pub terms_sum : (ℕ → ℕ → Number) → List Term → Number
+terms_sum G [] = num_zero
+terms_sum G (t ∷ ts) = add (G t.component t.quarters) (terms_sum G ts)
+
+module _ (n : ℕ) (before : ℕ → ℕ → Bool) (order : IsTotalBelow n before) (es : List Entry) (sound : AreSound n before es) (b : ℕ) where
+  weaker : (k : ℕ) (ps : List Part) → IsGathering n before es k ps → IsGathering n before es (k + 1) ps
+  weaker k ps h = record {
+    parts = h.parts;
+    rising = h.rising;
+    own = h.own;
+    small = each_map (λ p. unsigned_abs p.number ≤ k) (λ p. unsigned_abs p.number ≤ k + 1) (λ p l. omega arith) ps h.small;
+  }
+
+  class_gathering : (k : ℕ) (ps : List Part) → IsGathering n before es k ps → (c : ℕ) → c < n → (s : Sign) →
+      (o : Option (ℕ × Sign)) → class_at es c ≡ o → IsGathering n before es (k + 1) (class_added before o s ps)
+  class_gathering k ps h c l s None e = weaker k ps h
+  class_gathering k ps h c l s (Some x) e =
+      let u = unit (times x.1 s) in
+      let small : x.0 < n = sound.below c x.0 x.1 l e in
+      let own : IsOwn es x.0 = sound.own c x.0 x.1 l e in
+      record {
+        parts = each_added before x.0 u (λ p. (p.component < n) × (p.number ≢ pos 0)) (small, unit_not_nothing (times x.1 s))
+            (λ p q same nz. (small, not_nothing (p.number +ℤ u) nz)) ps h.parts;
+        rising = rising_added n before order x.0 small u ps h.parts h.rising;
+        own = each_added before x.0 u (λ p. IsOwn es p.component) own (λ p q same nz. own) ps h.own;
+        small = each_changed before x.0 u (λ p. unsigned_abs p.number ≤ k) (λ p. unsigned_abs p.number ≤ k + 1)
+            (λ p q. omega arith)
+            (let one : unsigned_abs (unit (times x.1 s)) ≤ 1 = unit_small (times x.1 s) in omega (arith, one))
+            (λ p q same nz. abs_more p.number (times x.1 s) k q) ps h.small;
+      }
+
+  term_gathering : (k : ℕ) (ps : List Part) → IsGathering n before es k ps → (t : Term) → t.component < n →
+      IsGathering n before es (k + 1) (term_added before es b t ps)
+  term_gathering k ps h t l = by (nat_eq (t.quarters % 2) b)
+    where
+      by : (c : Bool) → IsGathering n before es (k + 1) (cond c (class_added before (class_at es t.component) (turn_sign t.quarters) ps) ps)
+      by true = class_gathering k ps h t.component l (turn_sign t.quarters) (class_at es t.component) refl
+      by false = weaker k ps h
+
+  pub gathering : (ts : List Term) → Each (λ t. t.component < n) ts → (k : ℕ) (ps : List Part) → IsGathering n before es k ps →
+      IsGathering n before es (k + length ts) (gathered before es b ts ps)
+  gathering [] e k ps h = subst (λ m. IsGathering n before es m ps) (omega arith) h
+  gathering (t ∷ ts) e k ps h =
+      let rest = gathering ts e.1 (k + 1) (term_added before es b t ps) (term_gathering k ps h t e.0) in
+      let more : k + 1 + length ts ≡ k + suc (length ts) = omega arith in
+      subst (λ m. IsGathering n before es m (gathered before es b (t ∷ ts) ps)) more rest
+
+module _ (before : ℕ → ℕ → Bool) (es : List Entry) (b c : ℕ) where
+  row_at_class : (o : Option (ℕ × Sign)) (s : Sign) (ps : List Part) →
+      row_at (class_added before o s ps) c ≡ add (class_part o s c) (row_at ps c)
+  row_at_class None s ps = sym (num_zero-add (row_at ps c))
+  row_at_class (Some x) s ps = row_at-added before x.0 (unit (times x.1 s)) c ps
+
+  row_at_term : (t : Term) (ps : List Part) →
+      row_at (term_added before es b t ps) c ≡ add (term_part es b c t.component t.quarters) (row_at ps c)
+  row_at_term t ps = by (nat_eq (t.quarters % 2) b)
+    where
+      by : (z : Bool) → row_at (cond z (class_added before (class_at es t.component) (turn_sign t.quarters) ps) ps) c
+          ≡ add (cond z (class_part (class_at es t.component) (turn_sign t.quarters) c) num_zero) (row_at ps c)
+      by true = row_at_class (class_at es t.component) (turn_sign t.quarters) ps
+      by false = sym (num_zero-add (row_at ps c))
+
+  pub row_at-gathered : (ts : List Term) (ps : List Part) →
+      row_at (gathered before es b ts ps) c ≡ add (terms_sum (term_part es b c) ts) (row_at ps c)
+  row_at-gathered [] ps = sym (num_zero-add (row_at ps c))
+  row_at-gathered (t ∷ ts) ps =
+      row_at-gathered ts (term_added before es b t ps)
+      ∙ ap (add (terms_sum (term_part es b c) ts)) (row_at_term t ps)
+      ∙ num_add_left_comm (terms_sum (term_part es b c) ts) (term_part es b c t.component t.quarters) (row_at ps c)
+      ∙ sym (num_add_assoc (term_part es b c t.component t.quarters) (terms_sum (term_part es b c) ts) (row_at ps c))
+
+pub gathered-append : (before : ℕ → ℕ → Bool) (es : List Entry) (b : ℕ) (ts us : List Term) (ps : List Part) →
+    gathered before es b (ts ++ us) ps ≡ gathered before es b us (gathered before es b ts ps)
+gathered-append before es b [] us ps = refl
+gathered-append before es b (t ∷ ts) us ps = gathered-append before es b ts us (term_added before es b t ps)
+
+-- ---- parts gathered from some of the terms
+each_take : (P : Term → Type 0) (ts : List Term) → Each P ts → (k : ℕ) → Each P (take k ts)
+each_take P [] e zero = tt
+each_take P [] e (suc k) = tt
+each_take P (t ∷ ts) e zero = tt
+each_take P (t ∷ ts) e (suc k) = (e.0, each_take P ts e.1 k)
+
+pub each_term : (P : Term → Type 0) (ts : List Term) → Each P ts → (k : ℕ) → k < length ts → (d : Term) → P (get_or ts k d)
+each_term P [] e k h d = absurd (omega arith)
+each_term P (t ∷ ts) e zero h d = e.0
+each_term P (t ∷ ts) e (suc k) h d = each_term P ts e.1 k (omega arith) d
+
+pub gathered_small : (n r : ℕ) → n ≡ 3 ^ r → (o : Ordering) (es : List Entry) → AreSound n (before_at r o) es → (b : ℕ) (ts : List Term) →
+    AreTermsBelow n ts → length ts ≤ 729 → (k : ℕ) → k ≤ length ts → AreSmallParts n 729 (gathered (before_at r o) es b (take k ts) [])
+gathered_small n r size o es sound b ts below few k h =
+    let g = gathering n (before_at r o) (order_total n r size o) es sound b (take k ts)
+    (each_take (λ t. t.component < n) ts below.each k) 0 [] (record { parts = tt; rising = tt; own = tt; small = tt }) in
+    let l : length (take k ts) ≡ k = length-take-le k ts h in
+    record {
+      parts = g.parts;
+      small = each_map (λ p. unsigned_abs p.number ≤ 0 + length (take k ts)) (λ p. unsigned_abs p.number ≤ 729) (λ p m. omega arith)
+          (gathered (before_at r o) es b (take k ts) []) g.small;
+    }
+
+pub gathered_more : (before : ℕ → ℕ → Bool) (es : List Entry) (b : ℕ) (ts : List Term) (k : ℕ) (d : Term) → k < length ts →
+    term_added before es b (get_or ts k d) (gathered before es b (take k ts) []) ≡ gathered before es b (take (k + 1) ts) []
+gathered_more before es b ts k d h =
+    sym (gathered-append before es b (take k ts) (get_or ts k d ∷ []) []) ∙ ap (λ us. gathered before es b us []) (sym (take_more ts k d h))
+
+pub nothing_and : (s : Sign) → pos 0 +ℤ unit s ≡ unit s
+nothing_and Plus = refl
+nothing_and Minus = refl

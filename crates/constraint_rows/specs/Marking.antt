@@ -1,0 +1,30 @@
+-- What a diagonal element does to a component, and tables that are marked by it.
+--   Turns, Kills    coefficient -1 from a component to itself; the same of an operation that is diagonal
+--   IsMarked        an entry that vanishes also where a diagonal element turns its first component round
+--   AreMarked       the same for tables, component by component
+-- Source: this project's own.
+use Rattle.std.specs.Prelude.{◌≡◌, ◌↔◌, ℕ, ◌<◌, ◌⊎◌, true, List, length}
+use Rattle.tensor_defs.specs.Frames.{IsDiagonal}
+use Rattle.tensor_defs.specs.Number.{mul, neg, num_one}
+use Rattle.tensor_defs.specs.Operation.{Operation}
+use Rattle.tensor_defs.specs.Tensor.{Index, Marks, coefficient, index_of, sign}
+use Rattle.magnetic_groups.specs.Sets.{In}
+use Rattle.sign_moves.specs.declared.classes.Entry.{Entry}
+use Rattle.sign_moves.specs.Classes.{entry_at}
+use Rattle.constraint_rows.specs.WordRows.{IsKilled}
+
+pub record Turns (m : Marks) (c : Index) (g : Operation) : Type 0 where
+  pub turns : mul (sign m g) (coefficient g c c) ≡ neg num_one
+
+pub record Kills (m : Marks) (c : Index) (g : Operation) : Type 0 where
+  pub diagonal : IsDiagonal g
+  pub turns : Turns m c g
+
+pub record IsMarked (r : ℕ) (m : Marks) (hs : List Operation) (old new : Entry) : Type 0 where
+  pub same_first : new.first ≡ old.first
+  pub same_sign : new.sign ≡ old.sign
+  pub vanishes : (new.vanishes ≡ true) ↔ ((old.vanishes ≡ true) ⊎ IsKilled m (In hs) (index_of r old.first))
+
+pub record AreMarked (r : ℕ) (m : Marks) (hs : List Operation) (old new : List Entry) : Type 0 where
+  pub len : length new ≡ length old
+  pub each : (c : ℕ) → c < length old → IsMarked r m hs (entry_at old c) (entry_at new c)

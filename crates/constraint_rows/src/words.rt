@@ -1,0 +1,214 @@
+//! The even and odd rows of words over z, + and -: a rotation about z multiplies the sum of a word by a unit number.
+ghost use Rattle.std.specs.Prelude.{◌≡◌, ℕ, ◌+◌, ◌*◌, ◌^◌, ◌<◌, ◌≤◌, ◌++◌, [], IfOk, OnOk, ◌==◌, if◌then◌else◌, drop, filter, length, List};
+ghost use Rattle.tensor_defs.specs.Elimination.{AreRepresentatives};
+ghost use Rattle.tensor_defs.specs.Frames.{AllOf, IsFramed, IsPlain};
+ghost use Rattle.tensor_defs.specs.Jahn.{JahnSymbol};
+ghost use Rattle.tensor_defs.specs.Words.{Letter, is_used, words};
+ghost use Rattle.magnetic_groups.specs.Sets.{In};
+ghost use Rattle.sign_moves.specs.declared.classes.Entry.{Entry};
+ghost use Rattle.tensor_rank.specs.Orders.{before_at, before_of};
+ghost use Rattle.tensor_rank.specs.Shapes.{IsShapeOf};
+ghost use Rattle.constraint_rows.specs.Gathering.{AreRowsBelow, AreSmallParts, AreTermsBelow, gathered, term_added, terms_from, turn_sign, word_at};
+ghost use Rattle.constraint_rows.specs.WordRows.{AreSound, AreWordRows, carrier_of};
+
+use crate::axis::axis_classes;
+use crate::classing::Classes;
+use crate::gathering::add_part;
+use crate::memory::NoMemory;
+use crate::rows::{Part, Row};
+use magnetic_groups::Group;
+use sign_moves::{Sign, times};
+use std::alloc::Global;
+use tensor_rank::{Comp, Order, Rank, Shape};
+
+/// A component that belongs to a word, with its factor as a power of i.
+#[derive(Clone, Copy, Debug, PartialEq, Eq)]
+pub(crate) struct Term {
+    component: u16,
+    quarters: u8,
+}
+
+/// Whether the count of + less that of - of a word isn't divisible by 3, and its first letter other than z is +. The
+/// digits 1, 2, 3 of a component stand for the letters z, +, -.
+fn is_used<R: Rank>(word: Comp<R>) -> bool
+    ensures { result ≡ is_used (word_at R.R word) }
+{
+    let mut turns = 0u8;
+    let mut begins = false;
+    for place in (0..R::R).rev() {
+        match word.digit(place) {
+            1 => {}
+            2 => {
+                turns += 1;
+                begins = true;
+            }
+            _ => {
+                turns += 2;
+                begins = false;
+            }
+        }
+    }
+    turns % 3 != 0 && begins
+}
+
+/// The power of i that an index 2 gives at a place of + (digit 2) or of - (digit 3).
+fn turn_at(digit: u8) -> u8
+    ensures { result ≡ (if digit == 2 then 1 else 3) }
+{
+    if digit == 2 { 1 } else { 3 }
+}
+
+/// Lists the components whose indices go on by the letters of a word from a place on, after those of a number, whose
+/// factor has this power of i so far.
+fn list_terms<R: Rank>(
+    terms: &mut Vec<Term>,
+    word: Comp<R>,
+    place: usize,
+    number: usize,
+    quarters: u8,
+) -> Result<(), NoMemory>
+    requires place { place ≤ R.R }
+    requires number { number < 3 ^ place }
+    requires quarters { quarters ≤ 3 * place }
+    ensures { OnOk result (terms.new.items ≡ terms.old.items ++ terms_from number quarters (drop place (word_at R.R word))) }
+{
+    if place == R::R {
+        terms.push(Term {
+            component: number as u16,
+            quarters,
+        })?;
+        return Ok(());
+    }
+    let digit = word.digit(place);
+    if digit == 1 {
+        return list_terms(terms, word, place + 1, 3 * number + 2, quarters);
+    }
+    list_terms(terms, word, place + 1, 3 * number, quarters)?;
+    list_terms(
+        terms,
+        word,
+        place + 1,
+        3 * number + 1,
+        quarters + turn_at(digit),
+    )
+}
+
+/// The sign in front of 1 or i in a power of i.
+fn turn_sign(quarters: u8) -> Sign
+    ensures { result ≡ turn_sign quarters }
+{
+    if quarters / 2 % 2 == 0 {
+        Sign::Plus
+    } else {
+        Sign::Minus
+    }
+}
+
+/// Adds what a component gives to the even (0) or the odd (1) row, at its representative.
+fn add_term<R: Rank>(
+    parts: &mut Vec<Part>,
+    classes: &Classes<R>,
+    order: &Order<R>,
+    term: Term,
+    parity: u8,
+) -> Result<(), NoMemory>
+    requires component { term.component < R.LEN }
+    requires parts { AreSmallParts R.LEN 729 parts.old.items }
+    ensures { OnOk result (parts.new.items ≡ term_added (before_at R.R order.now) classes.now parity term parts.old.items) }
+{
+    if term.quarters % 2 != parity {
+        return Ok(());
+    }
+    match classes.of(Comp::at(term.component as usize)) {
+        None => Ok(()),
+        Some((first, sign)) => {
+            add_part(parts, order, first, times(sign, turn_sign(term.quarters)))
+        }
+    }
+}
+
+/// The even (0) or the odd (1) row of the components that belong to a word.
+fn row_of_terms<R: Rank>(
+    alloc: Global,
+    parts: &mut Vec<Part>,
+    terms: &[Term],
+    classes: &Classes<R>,
+    order: &Order<R>,
+    parity: u8,
+) -> Result<Row<R>, NoMemory>
+    requires sound { AreSound R.LEN (before_at R.R order.now) classes.now }
+    requires below { AreTermsBelow R.LEN terms.now }
+    requires few { length terms.now ≤ 729 }
+    ensures { IfOk result (λ row. row ≡ gathered (before_at R.R order.now) classes.now parity terms.now []) }
+{
+    parts.clear();
+    for place in 0..terms.len() {
+        add_term(parts, classes, order, terms[place], parity)?;
+    }
+    Row::of_parts(alloc, parts)
+}
+
+/// Adds the even and the odd row of a word, if it is in use.
+fn add_word<R: Rank>(
+    alloc: Global,
+    rows: &mut Vec<Row<R>>,
+    terms: &mut Vec<Term>,
+    parts: &mut Vec<Part>,
+    classes: &Classes<R>,
+    order: &Order<R>,
+    word: Comp<R>,
+) -> Result<(), NoMemory>
+    requires sound { AreSound R.LEN (before_at R.R order.now) classes.now }
+    requires rows { AreRowsBelow R.R (before_at R.R order.now) classes.now word rows.old.items }
+    ensures { OnOk result (AreRowsBelow R.R (before_at R.R order.now) classes.now (word + 1) rows.new.items) }
+{
+    if !is_used(word) {
+        return Ok(());
+    }
+    terms.clear();
+    list_terms(terms, word, 0, 0, 0)?;
+    rows.push(row_of_terms(alloc, parts, terms, classes, order, 0)?)?;
+    rows.push(row_of_terms(alloc, parts, terms, classes, order, 1)?)?;
+    Ok(())
+}
+
+/// The rows of the words in use, carried over to the representatives: for each word its even row, then its odd row.
+pub fn rows_of_words<R: Rank>(
+    alloc: Global,
+    classes: &Classes<R>,
+    order: &Order<R>,
+) -> Result<Vec<Row<R>>, NoMemory>
+    requires sound { AreSound R.LEN (before_at R.R order.now) classes.now }
+    ensures rows { IfOk result (λ v. AreWordRows R.R (before_at R.R order.now) classes.now (filter is_used (words R.R)) v.items) }
+{
+    let mut rows = Vec::new(alloc);
+    let mut terms = Vec::new(alloc);
+    let mut parts = Vec::new(alloc);
+    for number in 0..R::LEN {
+        add_word(
+            alloc,
+            &mut rows,
+            &mut terms,
+            &mut parts,
+            classes,
+            order,
+            Comp::at(number),
+        )?;
+    }
+    Ok(rows)
+}
+
+/// The rows of the words in use for a group, a symbol and an order.
+pub fn word_rows<R: Rank>(
+    alloc: Global,
+    group: &Group,
+    shape: &Shape<R>,
+    order: &Order<R>,
+) -> Result<Vec<Row<R>>, NoMemory>
+    requires framed { IsFramed (In group.now) }
+    requires other { ¬ AllOf (In group.now) IsPlain }
+    ensures rows { IfOk result (λ v. (cs : List Entry) × ((j : JahnSymbol) → IsShapeOf j R.R shape.now → AreRepresentatives j (In group.now) (before_of order.now) (carrier_of R.R cs)) × AreWordRows R.R (before_at R.R order.now) cs (filter is_used (words R.R)) v.items × AreSound R.LEN (before_at R.R order.now) cs) }
+{
+    let classes = axis_classes(alloc, group, shape, order)?;
+    rows_of_words(alloc, &classes, order)
+}

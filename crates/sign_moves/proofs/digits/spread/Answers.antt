@@ -1,0 +1,22 @@
+use Rattle.std.proofs.Common.{◌≡◌, ℕ, ◌+◌, ◌*◌, ◌<◌, List, [], ◌∷◌, ◌++◌, length, arith, ap, sym, ◌∙◌, subst}
+use Rattle.sign_moves.specs.declared.tabled.Step.{Step}
+use Rattle.sign_moves.specs.Tabling.{step_at}
+use Rattle.sign_moves.specs.Digits.{joined_step}
+use Rattle.sign_moves.proofs.DigitLaws.{spread_more, three_length}
+use Rattle.sign_moves.proofs.digits.spread.Goals as goal
+
+pub loop-j-preserved : goal.loop-j-preserved
+loop-j-preserved c =
+    let old : List Step = c.loop-j.longer.items in
+    let x : Step = c.joined_step.result in
+    let y : Step = c.joined_step-in-loop-j.result in
+    let z : Step = c.joined_step-in-loop-j-2.result in
+    let new : List Step = c.push-in-loop-j-2.new.self.items in
+    let items : new ≡ ((old ++ x ∷ []) ++ y ∷ []) ++ z ∷ [] = c.in_ok-push-3.ensures.items ∙ ap (λ xs. xs ++ z ∷ []) (c.in_ok-push-2.ensures.items ∙ ap (λ xs. xs ++ y ∷ []) c.in_ok-push.ensures.items) in
+    let before : length old ≡ 3 * c.loop-j.j = c.loop-j.invariant.len in
+    let more : length new ≡ length old + 3 = ap length items ∙ three_length old x y z in
+    record {
+      len = omega arith;
+      each = subst (λ (xs : List Step). (i d : ℕ) → i < c.loop-j.j + 1 → d < 3 → step_at xs (3 * i + d) ≡ joined_step (step_at c.args.row.now i) (step_at c.args.part.now d)) (sym items)
+          (spread_more c.args.row.now c.args.part.now old c.loop-j.j x y z before c.loop-j.invariant.each c.joined_step.ensures c.joined_step-in-loop-j.ensures c.joined_step-in-loop-j-2.ensures);
+    }

@@ -1,0 +1,5 @@
+pub mod DeterminantLaws
+pub mod FactorLaws
+pub mod IndexPlaces
+pub mod SumLaws
+pub mod CarryLaws

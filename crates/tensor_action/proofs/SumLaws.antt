@@ -1,0 +1,165 @@
+-- Sums of products, one product after the other, and where they grow.
+use Rattle.std.proofs.Common.{◌≡◌, ℕ, ◌+◌, ◌<◌, ◌≤◌, ◌^◌, ◌⊎◌, inl, inr, take, ap, sym, ◌∙◌, subst, arith, lit<, Result, Ok, Err}
+use Rattle.std.proofs.lemmas.Bool.{false≢true, cases_lt}
+use Rattle.std.proofs.lemmas.List.{take_all}
+use Rattle.std.specs.Result.{IsErr}
+use lib.IntN.{pos}
+use Rattle.tensor_defs.specs.Number.{Number, Root3, add, mul, whole, num_zero, root_3, HasParts, ReachesLimit, PartReaches, ProductReaches}
+use Rattle.tensor_defs.specs.StateRows.{sum_of}
+use Rattle.tensor_defs.specs.Tensor.{Index, Tensor, component_number, index_of, indices}
+use Rattle.number_laws.proofs.NumberLaws.{num_add-zero, num_mul-zero, num_zero-mul}
+use Rattle.tensor_laws.proofs.ComponentNumbers.{length-index_of}
+use Rattle.exact_frac.specs.Held.{IsHeldAs, zero_over_one}
+use Rattle.exact_frac.proofs.Divisors.{gcd-one}
+use Rattle.exact_frac.proofs.Overs.{over-zero}
+use Rattle.exact_frac.proofs.Parts.{held-not_large}
+use Rattle.root3_num.specs.Answers.{IsExactSum}
+use Rattle.root3_num.specs.Roots.{value_of_root, IsHeldRoot}
+use Rattle.root3_num.specs.declared.root.TooLarge.{TooLarge}
+use Rattle.root3_num.proofs.RootParts.{one-parts, zero-parts}
+use Rattle.tensor_rank.specs.IndexLaws.{component_below_at, index_number_at}
+use Rattle.tensor_action.specs.Acting.{AddsPart, SumGrows}
+use Rattle.tensor_action.proofs.IndexPlaces.{length-indices, sum_more}
+
+-- ---- 0 and numbers that are held
+zero_held : IsHeldAs num_zero zero_over_one
+zero_held = record {
+  same = sym (over-zero 1);
+  held = record { terms = record { positive = lit< tt; lowest = gcd-one 0 }; small_num = lit< tt; small_den = lit< tt };
+}
+
+zero_has : HasParts num_zero num_zero num_zero
+zero_has = record {
+  fraction_a = zero_over_one;
+  fraction_b = zero_over_one;
+  is_a = record { same = zero_held.same; terms = zero_held.held.terms };
+  is_b = record { same = zero_held.same; terms = zero_held.held.terms };
+  same = sym zero-parts;
+}
+
+zero_small : (x : Number) → x ≡ num_zero → ReachesLimit x → ⊥
+zero_small x e r = held-not_large x zero_over_one (record { same = e ∙ zero_held.same; held = zero_held.held }) r
+
+pub root-value : (x : Number) (v : Root3) → IsHeldRoot x v → value_of_root v ≡ x
+root-value x v h = sym (h.is_root.same ∙ (λ n. add (h.is_root.is_a.same n) (mul (h.is_root.is_b.same n) root_3)))
+
+pub held_calm : (x : Number) (v : Root3) → IsHeldRoot x v → PartReaches x → ⊥
+held_calm x v h p =
+    let i = h.is_root in
+    let own : HasParts x i.a i.b = record { fraction_a = v.a; fraction_b = v.b; is_a = i.is_a; is_b = i.is_b; same = i.same } in
+    let e = one-parts x p.0 p.1 i.a i.b p.2 own in
+    elim p.3 as (λ _. ⊥) [
+      | inl l ↦ held-not_large p.0 v.a (record { same = e.0 ∙ i.is_a.same; held = h.held.held_a }) l
+      | inr l ↦ held-not_large p.1 v.b (record { same = e.1 ∙ i.is_b.same; held = h.held.held_b }) l
+    ]
+
+zero_part_calm : (x : Number) → x ≡ num_zero → PartReaches x → ⊥
+zero_part_calm x z p =
+    let e = one-parts num_zero p.0 p.1 num_zero num_zero (subst (λ y. HasParts y p.0 p.1) z p.2) zero_has in
+    elim p.3 as (λ _. ⊥) [ inl l ↦ zero_small p.0 e.0 l | inr l ↦ zero_small p.1 e.1 l ]
+
+-- a product with 0 reaches the limit nowhere
+zero_product_calm : (x y : Number) → x ≡ num_zero → ProductReaches x y → ⊥
+zero_product_calm x y z p =
+    let a = p.0 in
+    let b = p.1 in
+    let c = p.2 in
+    let d = p.3 in
+    let e = one-parts num_zero a b num_zero num_zero (subst (λ y. HasParts y a b) z p.4) zero_has in
+    let left : (w : Number) → mul a w ≡ num_zero = λ w. ap (λ u. mul u w) e.0 ∙ num_zero-mul w in
+    let right : (w : Number) → mul b w ≡ num_zero = λ w. ap (λ u. mul u w) e.1 ∙ num_zero-mul w in
+    let three : mul (whole (pos 3)) (mul b d) ≡ num_zero = ap (mul (whole (pos 3))) (right d) ∙ num_mul-zero (whole (pos 3)) in
+    elim p.6 as (λ _. ⊥) [
+      | inl l ↦ zero_small (mul a c) (left c) l
+      | inr (inl l) ↦ zero_small (mul b d) (right d) l
+      | inr (inr (inl l)) ↦ zero_small (mul (whole (pos 3)) (mul b d)) three l
+      | inr (inr (inr (inl l))) ↦ zero_small _ ((λ n. add (left c n) (three n)) ∙ num_add-zero num_zero) l
+      | inr (inr (inr (inr (inl l)))) ↦ zero_small (mul a d) (left d) l
+      | inr (inr (inr (inr (inr (inl l))))) ↦ zero_small (mul b c) (right c) l
+      | inr (inr (inr (inr (inr (inr l))))) ↦ zero_small _ ((λ n. add (left d n) (right c n)) ∙ num_add-zero num_zero) l
+    ]
+
+-- ---- a sum with one more product
+pub adds-zero : (s x y : Number) (v : Root3) → x ≡ num_zero → IsHeldRoot s v → AddsPart s x y (Ok v)
+adds-zero s x y v z h =
+    let same : s ≡ add s (mul x y) = sym (ap (add s) (ap (λ u. mul u y) z ∙ num_zero-mul y) ∙ num_add-zero s) in
+    (root-value s v h ∙ same, zero_product_calm x y z, λ p. held_calm s v h (subst PartReaches (sym same) p))
+
+pub adds-err : (s x y : Number) (r : Result Root3 TooLarge) → IsErr r → ProductReaches x y ⊎ PartReaches (add s (mul x y)) →
+    AddsPart s x y r
+adds-err s x y (Ok v) h p = absurd (false≢true h)
+adds-err s x y (Err e) h p = p
+
+pub adds-sum : (s x y : Number) (part : Root3) (r : Result Root3 TooLarge) → IsHeldRoot (mul x y) part →
+    (ProductReaches x y → ⊥) → IsExactSum (add s (value_of_root part)) r → AddsPart s x y r
+adds-sum s x y part r h calm e =
+    by_result r (subst (λ n. IsExactSum (add s n) r) (root-value (mul x y) part h) e)
+  where
+    by_result : (r : Result Root3 TooLarge) → IsExactSum (add s (mul x y)) r → AddsPart s x y r
+    by_result (Ok v) e = (root-value _ v e.0, calm, e.1)
+    by_result (Err f) e = inr e
+
+-- ---- the sum of the first n products
+pub record IsSummed (r : ℕ) (f : Index → Number) (t : Tensor) (n : ℕ) (x : Number) : Type 0 where
+  pub sum : x ≡ sum_of (λ j. mul (f j) (t j)) (take n (indices r))
+  pub products : (c : ℕ) → c < n → ProductReaches (f (index_of r c)) (t (index_of r c)) → ⊥
+  pub sums : (k : ℕ) → k ≤ n → PartReaches (sum_of (λ j. mul (f j) (t j)) (take k (indices r))) → ⊥
+
+module _ (r : ℕ) (f : Index → Number) (t : Tensor) where
+  abbrev first : ℕ → Number
+  first n = sum_of (λ j. mul (f j) (t j)) (take n (indices r))
+
+  pub summed-start : (x : Number) → x ≡ num_zero → IsSummed r f t 0 x
+  summed-start x e = record {
+    sum = e;
+    products = λ c h. absurd (omega arith);
+    sums = λ k h p. let z : k ≡ 0 = omega arith in zero_part_calm (first k) (ap first z) p;
+  }
+
+  pub summed-more : (n : ℕ) (x : Number) (v : Root3) → n < 3 ^ r → IsSummed r f t n x →
+      AddsPart x (f (index_of r n)) (t (index_of r n)) (Ok v) → IsSummed r f t (n + 1) (value_of_root v)
+  summed-more n x v h s a =
+      let next : add x (mul (f (index_of r n)) (t (index_of r n))) ≡ first (n + 1) =
+      ap (λ y. add y (mul (f (index_of r n)) (t (index_of r n)))) s.sum ∙ sym (sum_more r n (λ j. mul (f j) (t j)) h) in
+      record {
+        sum = a.0 ∙ next;
+        products = λ c l p. elim (cases_lt c n) as (λ _. ⊥) [
+          | inl k ↦ s.products c k p
+          | inr k ↦
+              (let e : c ≡ n = omega arith in
+              a.1 (subst (λ c. ProductReaches (f (index_of r c)) (t (index_of r c))) e p))
+        ];
+        sums = λ k l p. elim (cases_lt n k) as (λ _. ⊥) [
+          | inl m ↦ (let e : k ≡ n + 1 = omega arith in a.2 (subst PartReaches (ap first e ∙ sym next) p))
+          | inr m ↦ s.sums k m p
+        ];
+      }
+
+  pub summed-grows : (n : ℕ) (x : Number) → n < 3 ^ r → IsSummed r f t n x →
+      ProductReaches (f (index_of r n)) (t (index_of r n)) ⊎ PartReaches (add x (mul (f (index_of r n)) (t (index_of r n)))) →
+      SumGrows r f t
+  summed-grows n x h s (inl p) = inl (index_of r n, length-index_of r n, p)
+  summed-grows n x h s (inr p) = inr (
+    n + 1,
+    subst PartReaches (ap (λ y. add y (mul (f (index_of r n)) (t (index_of r n)))) s.sum
+        ∙ sym (sum_more r n (λ j. mul (f j) (t j)) h)) p,
+  )
+
+  whole_list : (n : ℕ) → 3 ^ r ≤ n → take n (indices r) ≡ indices r
+  whole_list n h = take_all n (indices r) (subst (λ k. k ≤ n) (sym (length-indices r)) h)
+
+  pub summed-end : (x : Number) → IsSummed r f t (3 ^ r) x → x ≡ sum_of (λ j. mul (f j) (t j)) (indices r)
+  summed-end x s = s.sum ∙ ap (sum_of (λ j. mul (f j) (t j))) (whole_list (3 ^ r) (omega arith))
+
+  pub summed-calm : (x : Number) → IsSummed r f t (3 ^ r) x → SumGrows r f t → ⊥
+  summed-calm x s (inl p) =
+      let j = p.0 in
+      let e : index_of r (component_number j) ≡ j = index_number_at r j p.1 in
+      s.products (component_number j) (component_below_at r j p.1)
+      (subst (λ i. ProductReaches (f i) (t i)) (sym e) p.2)
+  summed-calm x s (inr p) = elim (cases_lt p.0 (3 ^ r)) as (λ _. ⊥) [
+    | inl l ↦ s.sums p.0 (omega arith) p.1
+    | inr l ↦
+        s.sums (3 ^ r) (omega arith)
+        (subst PartReaches (ap (sum_of (λ j. mul (f j) (t j))) (whole_list p.0 l ∙ sym (whole_list (3 ^ r) (omega arith)))) p.1)
+  ]
