@@ -59,7 +59,7 @@ module _ (r : ℕ) (before : Index → Index → Bool) (order : IsOrder r before
     | inr d ↦ d
   ]
 
-  rising_same : (xs ys : List Index) → IsRising before xs → IsRising before ys →
+  pub rising_same : (xs ys : List Index) → IsRising before xs → IsRising before ys →
       ((z : Index) → Contains xs z → Contains ys z) → ((z : Index) → Contains ys z → Contains xs z) → xs ≡ ys
   rising_same [] [] p q f g = refl
   rising_same [] (y ∷ ys) p q f g = absurd (none_held y (g y (held_here y ys)))
@@ -71,7 +71,7 @@ module _ (r : ℕ) (before : Index → Index → Bool) (order : IsOrder r before
       λ i. head i ∷ tail i
 
 -- ---- unknowns and rows
-same_members : (r : ℕ) (before : Index → Index → Bool) (rep other : Carrier) (us vs : List Index) →
+pub same_members : (r : ℕ) (before : Index → Index → Bool) (rep other : Carrier) (us vs : List Index) →
     ((c : Index) → length c ≡ r → rep c ≡ other c) → AreUnknowns r before rep us → AreUnknowns r before other vs →
     (c : Index) → Contains us c → Contains vs c
 same_members r before rep other us vs e p q c h =

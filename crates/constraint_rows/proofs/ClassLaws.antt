@@ -1,11 +1,11 @@
 -- A table of first components tells the classes over the invariant tensors.
-use Rattle.std.proofs.Common.{◌≡◌, ◌≢◌, ℕ, zero, suc, ◌+◌, ◌-◌, ◌^◌, ◌<◌, ◌≤◌, Bool, true, false, cond, List, [], ◌∷◌, length, get_or, refl, ap, sym, ◌∙◌, arith, subst, ◌⊎◌, inl, inr, IsNone}
-use Rattle.std.specs.Prelude.{Contains, IsTrue, eqb, Option, Some, None, ◌↔◌}
+use Rattle.std.proofs.Common.{◌≡◌, ◌≢◌, ℕ, zero, suc, ◌-◌, ◌^◌, ◌<◌, Bool, true, false, cond, List, [], ◌∷◌, length, get_or, refl, ap, sym, ◌∙◌, arith, subst, inl, inr}
+use Rattle.std.specs.Prelude.{Contains, eqb, Some, None}
 use Rattle.std.proofs.lemmas.Bool.{eqb-true, eq-eqb, cases_lt}
 use Rattle.std.proofs.lemmas.Bool.Decides.{eqb_tells}
 use Rattle.std.proofs.lemmas.List.{get_or_default}
 use Rattle.tensor_defs.specs.Frames.{AllOf, IsPlain}
-use Rattle.tensor_defs.specs.Jahn.{JahnSymbol, Bracket, rank, body_brackets, IsExchange, IsInvariant, Respects}
+use Rattle.tensor_defs.specs.Jahn.{JahnSymbol, Bracket, rank, body_brackets, IsInvariant, Respects}
 use Rattle.tensor_defs.specs.Lists.{Each}
 use Rattle.tensor_defs.specs.Number.{Number, neg, num_zero, num_one}
 use Rattle.tensor_defs.specs.Operation.{Operation, identity}
@@ -19,7 +19,7 @@ use Rattle.magnetic_groups.specs.Sets.{In}
 use Rattle.sign_moves.specs.declared.classes.Entry.{Entry}
 use Rattle.sign_moves.specs.Classes.{first_at, sign_at, vanishes_at}
 use Rattle.sign_moves.specs.Firsts.{IsFirstTable}
-use Rattle.sign_moves.specs.Moves.{Moves, IsReversible, IsKept, Reaches, stay, move}
+use Rattle.sign_moves.specs.Moves.{IsReversible, IsKept, Reaches, stay, move}
 use Rattle.sign_moves.specs.Signs.{signed}
 use Rattle.sign_moves.proofs.EngineLaws.{bool_cases}
 use Rattle.sign_moves.proofs.FirstLaws.{spread, spread_kept, spread_open, spread_vanishing, first_can, first_same}
@@ -33,7 +33,7 @@ use Rattle.tensor_rank.specs.Orders.{Ordering, before_of, before_at}
 use Rattle.tensor_rank.specs.ShapeValue.{ShapeValue}
 use Rattle.tensor_rank.specs.Shapes.{IsShapeOf}
 use Rattle.tensor_rank.specs.Symmetry.{exchanges_of}
-use Rattle.tensor_rank.specs.Within.{AllWithin, IsWithin, exchange_at}
+use Rattle.tensor_rank.specs.Within.{AllWithin, IsWithin}
 use Rattle.tensor_rank.proofs.ExchangeIndex.{numbered, length_exchanged, can_exchange, exchange_lands, all_from, each_exchange}
 use Rattle.tensor_rank.proofs.ShapeLaws.{carried_join}
 use Rattle.constraint_rows.specs.declared.ops.PlainOp.{PlainOp}

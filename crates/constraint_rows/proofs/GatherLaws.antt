@@ -1,15 +1,15 @@
 -- Parts of rows, with a number added at a component.
 use Rattle.std.proofs.Common.{◌≡◌, ◌≢◌, ℕ, zero, suc, ◌+◌, ◌%◌, ◌^◌, ◌<◌, ◌≤◌, Bool, true, false, cond, List, [], ◌∷◌, ◌++◌, length, get_or, take, drop, refl, ap, sym, ◌∙◌, arith, subst, inl, inr, eq-eqb}
-use Rattle.std.specs.Prelude.{IsTrue, eqb, insert, nat_eq, unsigned_abs, Option, Some, None}
+use Rattle.std.specs.Prelude.{IsTrue, insert, nat_eq, unsigned_abs, Option, Some, None}
 use Rattle.std.proofs.lemmas.Bool.{eqb-true}
 use Rattle.std.proofs.lemmas.List.{set_split, take_more, length-take-le}
 use Rattle.std.proofs.Math.ListN.{set}
 use Rattle.std.proofs.lemmas.Int.{ints}
 use lib.IntN.{ℤ, pos, negsuc, ◌+ℤ◌, ◌*ℤ◌}
-use Rattle.number_laws.proofs.NumberLaws.{num_add-zero, num_zero-add, num_add_left_comm, num_add_assoc}
+use Rattle.number_laws.proofs.NumberLaws.{num_zero-add, num_add_left_comm, num_add_assoc}
 use Rattle.tensor_defs.specs.IntRing.{mul-one_ℤ}
 use Rattle.tensor_defs.specs.Lists.{Each, IsRising}
-use Rattle.tensor_defs.specs.Number.{Number, Triple, add, add_at, num_zero, whole, same_numbers}
+use Rattle.tensor_defs.specs.Number.{Number, add, num_zero, whole, same_numbers}
 use Rattle.tensor_defs.specs.declared.Sign.{Sign}
 use Rattle.tensor_defs.specs.declared.Sign.TheVariants.{Plus, Minus}
 use Rattle.tensor_defs.specs.Tensor.{component_number, index_of}

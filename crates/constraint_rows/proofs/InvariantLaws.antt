@@ -1,16 +1,15 @@
 -- Invariant tensors are those that the moves keep, and generators suffice.
-use Rattle.std.proofs.Common.{◌≡◌, ℕ, ◌+◌, ◌^◌, ◌<◌, List, [], ◌∷◌, length, get_or, refl, ap, sym, ◌∙◌, arith, subst}
+use Rattle.std.proofs.Common.{◌≡◌, ℕ, ◌^◌, List, [], ◌∷◌, get_or, ap, ◌∙◌, subst}
 use Rattle.std.specs.Prelude.{Contains}
 use Rattle.std.proofs.lemmas.List.{get_or_default}
-use Rattle.tensor_defs.specs.Number.{Number}
-use Rattle.tensor_defs.specs.Operation.{Operation, identity, IsProduct}
-use Rattle.tensor_defs.specs.Tensor.{Index, Tensor, Marks, Agree, act}
+use Rattle.tensor_defs.specs.Operation.{Operation, identity}
+use Rattle.tensor_defs.specs.Tensor.{Tensor, Marks, Agree, act}
 use Rattle.tensor_defs.specs.Lists.{Each}
 use Rattle.tensor_defs.specs.Group.{IsProductOf, Generated}
 use Rattle.tensor_defs.specs.Jahn.{JahnSymbol, rank, body_brackets, IsInvariant}
 use Rattle.tensor_laws.proofs.ActionLaws.{acts_in_turn, identity_acts_lem}
 use Rattle.tensor_laws.proofs.Agreeing.{act-agree}
-use Rattle.sign_moves.specs.Moves.{Moves, IsKept, IsReversible}
+use Rattle.sign_moves.specs.Moves.{Moves, IsKept}
 use Rattle.tensor_rank.specs.Exchanges.{exchange_moves}
 use Rattle.tensor_rank.specs.Within.{AllWithin}
 use Rattle.constraint_rows.specs.declared.ops.PlainOp.{PlainOp}

@@ -1,5 +1,5 @@
 -- What the lists that are made element by element are, and a table of first components made from generators.
-use Rattle.std.proofs.Common.{◌≡◌, ℕ, ◌+◌, ◌-◌, ◌<◌, ◌≤◌, ◌^◌, List, [], ◌∷◌, ◌++◌, length, get_or, arith, refl, ap, sym, ◌∙◌, subst, inl, inr, ◌↔◌, length-append}
+use Rattle.std.proofs.Common.{◌≡◌, ℕ, ◌+◌, ◌-◌, ◌<◌, ◌≤◌, ◌^◌, List, [], ◌∷◌, ◌++◌, length, get_or, arith, refl, ap, sym, ◌∙◌, subst, inl, inr, ◌↔◌}
 use Rattle.std.specs.Prelude.{Contains}
 use Rattle.std.proofs.lemmas.Bool.{cases_lt}
 use Rattle.std.proofs.lemmas.List.{get_or_append_left, get_or-append_right}
@@ -10,7 +10,6 @@ use Rattle.tensor_defs.specs.declared.Sign.TheVariants.{Plus}
 use Rattle.magnetic_groups.specs.Sets.{In, Spanned}
 use Rattle.sign_moves.specs.declared.classes.Entry.{Entry}
 use Rattle.sign_moves.specs.Firsts.{IsFirstTable, AreSettled}
-use Rattle.sign_moves.specs.Moves.{IsReversible}
 use Rattle.sign_moves.proofs.FirstLaws.{firsts_tell}
 use Rattle.sign_moves.proofs.JoinedLaws.{joined_reversible}
 use Rattle.tensor_rank.specs.declared.exchanges.Exchange.{Exchange}

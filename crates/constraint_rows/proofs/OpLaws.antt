@@ -2,7 +2,7 @@
 use Rattle.std.proofs.Common.{◌≡◌, ℕ, ◌+◌, ◌*◌, ◌<◌, ◌≤◌, ◌^◌, List, length, zero, suc, add-one, lit≤, arith, ap, sym, ◌∙◌, refl, subst, lit<, ◌⊎◌, inl, inr, ◌≢◌}
 use Rattle.tensor_rank.specs.Digits.{digit_of, number_of}
 use Rattle.tensor_rank.specs.DigitLaws.{number_of-same, number_of-below, number_of-digits, digit_of-number}
-use Rattle.sign_moves.specs.Moves.{Moves, IsReversible, Reaches, stay, move}
+use Rattle.sign_moves.specs.Moves.{IsReversible, Reaches, stay, move}
 use Rattle.tensor_defs.specs.declared.Sign.TheVariants.{Plus}
 use Rattle.sign_moves.specs.Signs.{times}
 use Rattle.tensor_defs.specs.declared.Sign.{Sign}

@@ -1,11 +1,11 @@
 -- What the code reads of a signed permutation matrix stands for it.
-use Rattle.std.proofs.Common.{◌≡◌, ◌≢◌, ℕ, zero, suc, ◌<◌, Bool, true, false, cond, get_or, refl, ap, sym, ◌∙◌, arith, subst, ◌⊎◌, inl, inr, lit<}
+use Rattle.std.proofs.Common.{◌≡◌, ◌≢◌, Bool, true, false, cond, get_or, refl, ap, sym, ◌∙◌, subst, ◌⊎◌, inl, inr, lit<}
 use lib.IntN.{ℤ, pos, negsuc}
 use lib.Signed.{lt_z}
 use mir.Syntax.{w8}
 use mir.Val.{to_z, of_z}
 use Rattle.tensor_defs.specs.IntRing.{mul-one_ℤ}
-use Rattle.tensor_defs.specs.Number.{Number, mul, neg, num_zero, num_one, whole, half_of, Same}
+use Rattle.tensor_defs.specs.Number.{Number, mul, neg, num_zero, num_one, whole}
 use Rattle.tensor_defs.specs.Frames.{IsUnit, OneUnit, IsPlain}
 use Rattle.tensor_defs.specs.Operation as defs
 use Rattle.tensor_defs.specs.Operation.{Axis, x1, x2, x3, Operation, entry, value, determinant}
@@ -16,13 +16,13 @@ use Rattle.number_laws.proofs.NumberLaws.{num_mul-one}
 use Rattle.number_laws.proofs.Sameness.{numbers_are_same_lem}
 use Rattle.op_matrix.specs.declared.entry.Entry.{Entry}
 use Rattle.op_matrix.specs.declared.entry.Entry.TheVariants.{One, HalfRoot3, Half, Zero, MinusHalf, MinusHalfRoot3, MinusOne}
-use Rattle.op_matrix.specs.View.{entry_of, axis}
+use Rattle.op_matrix.specs.View.{entry_of}
 use Rattle.op_matrix.proofs.Frames.{same_entry_of}
 use Rattle.sign_moves.specs.Signs.{signed, times}
 use Rattle.sign_moves.proofs.SignLaws.{signed-signed}
 use Rattle.constraint_rows.specs.declared.ops.PlainOp.{PlainOp}
-use Rattle.constraint_rows.specs.PlainOps.{image, entry_sign, IsPermutation, StandsFor}
-use Rattle.constraint_rows.specs.Reading.{RowReads, is_unit, is_minus, unit_column, row_negates}
+use Rattle.constraint_rows.specs.PlainOps.{image, entry_sign, StandsFor}
+use Rattle.constraint_rows.specs.Reading.{RowReads, unit_column, row_negates}
 use Rattle.constraint_rows.proofs.OpIndex.{signed_mul}
 use Rattle.constraint_rows.proofs.OpLaws.{permutation_told}
 use Rattle.constraint_rows.proofs.StandLaws.{number_at, at_one, at_minus, zero_number, determinant_unit, apart_columns}

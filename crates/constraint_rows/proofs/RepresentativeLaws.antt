@@ -1,27 +1,25 @@
 -- A table of first components under a symbol's exchanges, marked by diagonal elements, tells the representatives.
-use Rattle.std.proofs.Common.{◌≡◌, ◌≢◌, ℕ, zero, suc, ◌+◌, ◌^◌, ◌<◌, ◌≤◌, Bool, true, false, cond, List, [], ◌∷◌, length, get_or, refl, ap, sym, ◌∙◌, arith, subst, ◌⊎◌, inl, inr, ◌↔◌}
-use Rattle.std.specs.Prelude.{Contains, IsTrue, Option, Some, None}
-use Rattle.number_laws.proofs.NumberLaws.{num_one-mul}
-use Rattle.tensor_defs.specs.Elimination.{AreRepresentatives, IsDropped, IsRepresentative, IsSign, IsTied}
+use Rattle.std.proofs.Common.{◌≡◌, ℕ, ◌^◌, ◌<◌, Bool, true, false, cond, List, [], refl, ap, sym, ◌∙◌, arith, subst, ◌⊎◌, inl, inr}
+use Rattle.std.specs.Prelude.{Option, Some, None}
+use Rattle.tensor_defs.specs.Elimination.{AreRepresentatives, IsDropped, IsRepresentative, IsSign}
 use Rattle.tensor_defs.specs.Frames.{AllOf, IsPlain}
 use Rattle.tensor_defs.specs.Jahn.{JahnSymbol, rank, body_brackets, HasSymmetry, IsInvariant}
-use Rattle.tensor_defs.specs.Number.{Number, mul, neg, num_one, num_zero}
+use Rattle.tensor_defs.specs.Number.{Number, mul, num_one}
 use Rattle.tensor_defs.specs.Operation.{Operation}
 use Rattle.tensor_defs.specs.Tensor.{Index, Marks, Tensor, coefficient, component_number, index_of}
 use Rattle.tensor_defs.specs.declared.Sign.{Sign}
 use Rattle.tensor_defs.specs.declared.Sign.TheVariants.{Plus, Minus}
-use Rattle.tensor_laws.proofs.ComponentNumbers.{length-index_of, number-index_of}
+use Rattle.tensor_laws.proofs.ComponentNumbers.{length-index_of}
 use Rattle.magnetic_groups.specs.Sets.{In}
 use Rattle.sign_moves.specs.declared.classes.Entry.{Entry}
 use Rattle.sign_moves.specs.Classes.{entry_at, first_at, sign_at, vanishes_at}
 use Rattle.sign_moves.specs.Firsts.{AreSettled, IsFirstTable}
-use Rattle.sign_moves.specs.Moves.{Moves, IsKept, IsReversible}
+use Rattle.sign_moves.specs.Moves.{IsReversible}
 use Rattle.sign_moves.specs.Signs.{signed}
 use Rattle.sign_moves.proofs.EngineLaws.{bool_cases}
 use Rattle.sign_moves.proofs.FirstLaws.{first_same, firsts_tell}
 use Rattle.sign_moves.proofs.JoinedLaws.{joined_reversible}
 use Rattle.tensor_rank.specs.declared.exchanges.Exchange.{Exchange}
-use Rattle.tensor_rank.specs.Carried.{IsZeroAt}
 use Rattle.tensor_rank.specs.IndexLaws.{component_below_at, index_number_at}
 use Rattle.tensor_rank.specs.Orders.{Ordering, before_at, before_of}
 use Rattle.tensor_rank.specs.ShapeValue.{ShapeValue}
@@ -30,10 +28,9 @@ use Rattle.tensor_rank.specs.Symmetry.{exchanges_of}
 use Rattle.tensor_rank.specs.Within.{AllWithin}
 use Rattle.tensor_rank.proofs.ExchangeIndex.{numbered}
 use Rattle.tensor_rank.proofs.ExchangeLaws.{exchanges_reversible}
-use Rattle.constraint_rows.specs.declared.ops.PlainOp.{PlainOp}
 use Rattle.constraint_rows.specs.Classes.{IsGeneratedBy, class_at, moves_of}
 use Rattle.constraint_rows.specs.Marking.{AreMarked, IsMarked}
-use Rattle.constraint_rows.specs.PlainOps.{ArePermutations, StandForAll}
+use Rattle.constraint_rows.specs.PlainOps.{StandForAll}
 use Rattle.constraint_rows.specs.WordRows.{AreSound, IsKilled, IsOwn, carried_to, carrier_of}
 use Rattle.constraint_rows.proofs.ClassLaws.{not_zero_by_table, path_carried, turned_class, zero_by_table}
 use Rattle.constraint_rows.proofs.DiagonalLaws.{killed_along, own_carried}

@@ -1,9 +1,9 @@
 -- A signed permutation matrix has a stand-in.
-use Rattle.std.proofs.Common.{◌≡◌, ◌≢◌, ℕ, zero, suc, ◌<◌, Bool, true, false, cond, List, [], ◌∷◌, refl, ap, sym, ◌∙◌, arith, subst, ◌⊎◌, inl, inr, lit<}
-use lib.IntN.{ℤ, pos, negsuc}
+use Rattle.std.proofs.Common.{◌≡◌, ◌≢◌, Bool, true, false, cond, [], ◌∷◌, refl, ap, sym, ◌∙◌, inl, inr}
+use lib.IntN.{pos, negsuc}
 use Rattle.tensor_defs.specs.Number.{Number, add, mul, neg, num_zero, num_one, whole, half_of, same_numbers}
-use Rattle.number_laws.proofs.NumberLaws.{num_zero-mul, num_mul-zero, num_add-zero, num_zero-add, num_one-mul, num_mul-one, num_neg-neg, num_mul_assoc}
-use Rattle.tensor_defs.specs.Operation.{Axis, x1, x2, x3, Entry, Operation, entry, value, determinant, one, nought, minus_one}
+use Rattle.number_laws.proofs.NumberLaws.{num_zero-mul, num_mul-zero, num_add-zero, num_zero-add}
+use Rattle.tensor_defs.specs.Operation.{Axis, x1, x2, x3, Entry, Operation, entry, value, determinant, nought}
 use Rattle.tensor_defs.specs.Tensor.{Marks, sign, axial_sign, time_sign}
 use Rattle.tensor_defs.specs.Frames.{IsUnit, OneUnit, IsPlain}
 use Rattle.tensor_defs.specs.Tensor.{axis_place, axis_at}

@@ -1,19 +1,19 @@
 -- The words by their numbers, and their rows as sums over the components that belong to them.
-use Rattle.std.proofs.Common.{◌≡◌, ◌≢◌, ℕ, zero, suc, ◌+◌, ◌-◌, ◌*◌, ◌/◌, ◌%◌, ◌^◌, ◌<◌, ◌≤◌, Bool, true, false, cond, List, [], ◌∷◌, ◌++◌, length, get_or, take, drop, map, refl, ap, sym, ◌∙◌, arith, subst, inl, inr, eq-eqb, append_assoc, append-nil, lit<}
-use Rattle.std.specs.Prelude.{IsTrue, eqb, filter, nat_eq, Option, Some, None, unsigned_abs}
+use Rattle.std.proofs.Common.{◌≡◌, ◌≢◌, ℕ, zero, suc, ◌+◌, ◌-◌, ◌*◌, ◌/◌, ◌%◌, ◌^◌, ◌<◌, ◌≤◌, Bool, true, false, cond, List, [], ◌∷◌, ◌++◌, length, drop, map, refl, ap, sym, ◌∙◌, arith, subst, inl, inr, eq-eqb, append_assoc, append-nil, lit<}
+use Rattle.std.specs.Prelude.{filter, nat_eq, Option, Some, None, unsigned_abs}
 use Rattle.std.proofs.lemmas.Bool.{eqb-true}
 use Rattle.std.proofs.lemmas.List.{drop_all, map_push, length-append}
 use Rattle.std.proofs.lemmas.List.Elements.{filter-append}
 use Rattle.std.proofs.lemmas.Nat.{div-mul-add, mod-mul-add}
-use native.Mathlib.Nat.{pow-suc, one-le-pow}
-use lib.IntN.{ℤ, pos, negsuc}
+use native.Mathlib.Nat.{pow-suc}
+use lib.IntN.{negsuc}
 use Rattle.number_laws.proofs.NumberLaws.{num_add-zero, num_zero-add, num_add_assoc, num_mul-zero, num_mul-one}
 use Rattle.tensor_defs.specs.Elimination.{share}
 use Rattle.tensor_defs.specs.Lists.{Each}
 use Rattle.tensor_defs.specs.Number.{Number, add, mul, neg, num_zero, num_one, whole}
 use Rattle.tensor_defs.specs.Operation.{Axis, x1, x2, x3}
-use Rattle.tensor_defs.specs.Tensor.{Index, Tensor, axis_at, component_number, digit, index_of, same_index, sum_indices}
-use Rattle.tensor_defs.specs.Words.{level, plus, minus, Letter, Word, words, is_used, belongs, twos, minus_twos, power_of_minus_one, even_row, odd_row, begins_plus, plus_count, minus_count}
+use Rattle.tensor_defs.specs.Tensor.{Index, axis_at, component_number, digit, index_of, same_index, sum_indices}
+use Rattle.tensor_defs.specs.Words.{level, plus, minus, Letter, Word, words, is_used, belongs, twos, minus_twos, power_of_minus_one, even_row, odd_row}
 use Rattle.tensor_defs.specs.declared.Sign.{Sign}
 use Rattle.tensor_defs.specs.declared.Sign.TheVariants.{Plus, Minus}
 use Rattle.tensor_laws.proofs.Agreeing.{sum_indices-agree}
@@ -25,7 +25,7 @@ use Rattle.sign_moves.proofs.SignLaws.{signed-signed}
 use Rattle.tensor_rank.specs.IndexLaws.{component_below_at, nth}
 use Rattle.constraint_rows.specs.Classes.{class_at}
 use Rattle.constraint_rows.specs.Gathering.{AreRowsBelow, AreTermsBelow, letter_of, letters, word_at, words_below, terms_from, turn_sign, part_row, part, unit, gathered}
-use Rattle.constraint_rows.specs.WordRows.{AreSound, AreWordRows, IsCarriedRow, carrier_of, carried_to, part_at, row_at}
+use Rattle.constraint_rows.specs.WordRows.{AreSound, AreWordRows, IsCarriedRow, carrier_of, carried_to}
 use Rattle.constraint_rows.specs.declared.rows.Part.{Part}
 use Rattle.constraint_rows.specs.declared.words.Term.{Term}
 use Rattle.constraint_rows.proofs.OpIndex.{signed_mul}

@@ -18,7 +18,7 @@ use Rattle.tensor_defs.specs.Lists.{Each}
 use Rattle.tensor_defs.specs.Number.{Number, num_zero}
 use Rattle.tensor_defs.specs.Operation.{Axis, x1, x2, x3}
 use Rattle.tensor_defs.specs.Tensor.{Index, index_of}
-use Rattle.tensor_defs.specs.Words.{Letter, level, plus, minus, Word, words, is_used, belongs, twos, minus_twos, power_of_minus_one}
+use Rattle.tensor_defs.specs.Words.{Letter, level, plus, minus, Word, is_used, belongs, twos, minus_twos, power_of_minus_one}
 use Rattle.sign_moves.specs.declared.classes.Entry.{Entry}
 use Rattle.sign_moves.specs.Signs.{times}
 use Rattle.constraint_rows.specs.Classes.{class_at}

@@ -1,5 +1,5 @@
 -- Signed permutation matrices and what they do to components.
-use Rattle.std.specs.Prelude.{◌≡◌, ◌≢◌, ℕ, ◌+◌, ◌<◌, ◌≤◌, List, [], length, get_or, Bool, false}
+use Rattle.std.specs.Prelude.{◌≡◌, ◌≢◌, ℕ, ◌<◌, List, [], length, get_or, false}
 use Rattle.std.proofs.Common.{cond, zero, suc}
 use Rattle.tensor_defs.specs.declared.Sign.{Sign}
 use Rattle.tensor_defs.specs.declared.Sign.TheVariants.{Plus, Minus}

@@ -11,7 +11,7 @@
 --   AreWordRows     the even and the odd rows of words, in their order
 -- Source: a rotation about z multiplies the sum of a word by a unit number; this project's own form of it.
 use Rattle.std.specs.Prelude.{◌≡◌, ◌≢◌, ℕ, ◌<◌, ◌≤◌, ◌^◌, Bool, false, List, [], ◌∷◌, cond, nat_eq, unsigned_abs, Option, Some, None}
-use lib.IntN.{ℤ, pos}
+use lib.IntN.{pos}
 use Rattle.tensor_defs.specs.declared.Sign.{Sign}
 use Rattle.tensor_defs.specs.declared.Sign.TheVariants.{Plus}
 use Rattle.tensor_defs.specs.Elimination.{Carrier, share}

@@ -42,11 +42,11 @@ use Rattle.reduced_form.specs.declared.forms.Term.{Term}
 use Rattle.reduced_form.specs.Forms.{term_of, FormValue, row_at, form_table, unit_term, free_at, IsForm, IsFormOf}
 
 -- ---- lists
-each_get : {X : Type 0} (P : X → Type 0) (d : X) (xs : List X) → ((k : ℕ) → k < length xs → P (get_or xs k d)) → Each P xs
+pub each_get : {X : Type 0} (P : X → Type 0) (d : X) (xs : List X) → ((k : ℕ) → k < length xs → P (get_or xs k d)) → Each P xs
 each_get P d [] h = tt
 each_get P d (x ∷ xs) h = (h 0 (omega arith), each_get P d xs (λ k l. h (suc k) (omega arith)))
 
-rising_get : {X : Type 0} (before : X → X → Bool) (d : X) (xs : List X) → ((i k : ℕ) → i < k → k < length xs → IsTrue (before (get_or xs i d) (get_or xs k d))) → IsRising before xs
+pub rising_get : {X : Type 0} (before : X → X → Bool) (d : X) (xs : List X) → ((i k : ℕ) → i < k → k < length xs → IsTrue (before (get_or xs i d) (get_or xs k d))) → IsRising before xs
 rising_get before d [] h = tt
 rising_get before d (x ∷ xs) h = (
   each_get (λ y. IsTrue (before x y)) d xs (λ k l. h 0 (suc k) (omega arith) (omega arith)),
@@ -59,7 +59,7 @@ none_some x e = cc
 some_same : {X : Type 0} (x y : X) → Some x ≡ Some y → x ≡ y
 some_same x y e = cc
 
-get_told : {X : Type 0} (d x : X) (xs : List X) (k : ℕ) → slice_get xs k ≡ Some x → (k < length xs) × (get_or xs k d ≡ x)
+pub get_told : {X : Type 0} (d x : X) (xs : List X) (k : ℕ) → slice_get xs k ≡ Some x → (k < length xs) × (get_or xs k d ≡ x)
 get_told d x [] k e = absurd (none_some x e)
 get_told d x (y ∷ xs) zero e = (omega arith, some_same y x e)
 get_told d x (y ∷ xs) (suc k) e =
@@ -71,11 +71,11 @@ fraction_one : (a : ℤ) → over a 1 ≡ whole a
 unfolding over fraction whole
 fraction_one a = λ i. fraction a 1 (le_prop (positive_suc 0) (lit< tt) i)
 
-unit_value : (k : ℕ) (s : Sign) (v : ℕ → Number) → sum_terms (term_of (unit_term k s) ∷ []) v ≡ signed s (v k)
+pub unit_value : (k : ℕ) (s : Sign) (v : ℕ → Number) → sum_terms (term_of (unit_term k s) ∷ []) v ≡ signed s (v k)
 unit_value k Plus v = num_add-zero _ ∙ ap (λ x. mul x (v k)) (fraction_one (pos 1)) ∙ num_one-mul (v k)
 unit_value k Minus v = num_add-zero _ ∙ ap (λ x. mul x (v k)) (fraction_one (negsuc 0))
 
-unit_proper : (k : ℕ) (s : Sign) → IsProper (term_of (unit_term k s))
+pub unit_proper : (k : ℕ) (s : Sign) → IsProper (term_of (unit_term k s))
 unit_proper k Plus = record { terms = record { positive = lit< tt; lowest = (dvd_refl 1, dvd_refl 1, λ d p q. p) }; not_zero = λ e. cc }
 unit_proper k Minus = record { terms = record { positive = lit< tt; lowest = (dvd_refl 1, dvd_refl 1, λ d p q. p) }; not_zero = λ e. cc }
 

@@ -43,10 +43,10 @@ orders_total n r o size = record {
     one_way a b f (inr e) = e
 
 -- ---- what a table tells of a component
-class_open : (es : List Entry) (c : ℕ) → vanishes_at es c ≡ false → class_at es c ≡ Some (first_at es c, sign_at es c)
+pub class_open : (es : List Entry) (c : ℕ) → vanishes_at es c ≡ false → class_at es c ≡ Some (first_at es c, sign_at es c)
 class_open es c v = ap (λ b. cond b None (Some (first_at es c, sign_at es c))) v
 
-class_vanishing : (es : List Entry) (c : ℕ) → vanishes_at es c ≡ true → class_at es c ≡ None
+pub class_vanishing : (es : List Entry) (c : ℕ) → vanishes_at es c ≡ true → class_at es c ≡ None
 class_vanishing es c v = ap (λ b. cond b None (Some (first_at es c, sign_at es c))) v
 
 pub class_some : (es : List Entry) (c : ℕ) (x : ℕ × Sign) → class_at es c ≡ Some x →

@@ -3,13 +3,17 @@
 #![tactic(auto)]
 
 mod comparing;
+mod eliminating;
 mod forms;
 mod free;
 mod memory;
 mod rows;
 mod solving;
+mod sparse;
+mod told;
 mod writing;
 
+pub use eliminating::eliminate;
 pub use forms::{Form, Term};
 pub use memory::{NoMemory, SolveFault};
 pub use solving::solve;

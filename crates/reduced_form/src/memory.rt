@@ -23,6 +23,12 @@ impl From<constraint_rows::NoMemory> for NoMemory {
     }
 }
 
+impl From<sparse_rows::NoMemory> for NoMemory {
+    fn from(_error: sparse_rows::NoMemory) -> NoMemory {
+        NoMemory
+    }
+}
+
 /// Why constraints have no table.
 #[derive(Clone, Copy, Debug, PartialEq, Eq, Drop, Error)]
 pub enum SolveFault {
@@ -41,6 +47,17 @@ impl From<NoMemory> for SolveFault {
     ghost from_gives = { λ _ e. e ≡ refused };
 
     fn from(_error: NoMemory) -> SolveFault {
+        SolveFault::NoMemory
+    }
+}
+
+impl From<constraint_rows::NoMemory> for SolveFault {
+    ghost use Rattle.reduced_form.specs.declared.memory.SolveFault.TheVariants.{NoMemory as refused};
+    ghost use Rattle.std.specs.Prelude.{◌≡◌};
+
+    ghost from_gives = { λ _ e. e ≡ refused };
+
+    fn from(_error: constraint_rows::NoMemory) -> SolveFault {
         SolveFault::NoMemory
     }
 }

@@ -13,7 +13,7 @@ use std::alloc::Global;
 use tensor_rank::{Comp, Rank, Sign};
 
 /// 1 or -1.
-fn unit_of(sign: Sign) -> Frac
+pub(crate) fn unit_of(sign: Sign) -> Frac
     ensures { result ≡ unit_fraction sign }
 {
     match sign {

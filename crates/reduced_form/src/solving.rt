@@ -1,5 +1,6 @@
-ghost use Rattle.std.specs.Prelude.{◌≡◌, ℕ, ◌<◌, IfOk, Err};
-ghost use Rattle.tensor_defs.specs.Frames.{AllOf, IsPlain};
+ghost use Rattle.std.specs.Prelude.{◌≡◌, ℕ, ◌<◌, IfErr, IfOk};
+ghost use Rattle.tensor_defs.specs.Elimination.{Grows};
+ghost use Rattle.tensor_defs.specs.Frames.{AllOf, IsFramed, IsPlain};
 ghost use Rattle.tensor_defs.specs.Jahn.{JahnSymbol};
 ghost use Rattle.tensor_defs.specs.Table.{Fits};
 ghost use Rattle.magnetic_groups.specs.Sets.{In};
@@ -7,12 +8,15 @@ ghost use Rattle.sign_moves.specs.Firsts.{AreSettled};
 ghost use Rattle.tensor_rank.specs.Orders.{before_at, before_of};
 ghost use Rattle.tensor_rank.specs.Shapes.{IsShapeOf};
 ghost use Rattle.reduced_form.specs.Forms.{IsFormOf, form_table};
+ghost use Rattle.reduced_form.specs.declared.memory.SolveFault.{SolveFault};
 
+use crate::eliminating::eliminate_checked;
 use crate::forms::Form;
 use crate::free::{free_components, places_of};
 use crate::memory::{NoMemory, SolveFault};
 use crate::rows::rows_of;
-use constraint_rows::{Classes, plain_classes};
+use axis_laws::{one_elimination, rows_decide_invariance};
+use constraint_rows::{Classes, axis_classes, plain_classes, rows_of_words};
 use magnetic_groups::Group;
 use std::alloc::Global;
 use std::marker::PhantomData;
@@ -51,21 +55,45 @@ fn plain_form<R: Rank>(
     form_of_classes(alloc, &classes, order)
 }
 
-/// The component table of the tensors of a symbol that a group of plain operations leaves unchanged: its free
-/// components rise in the order, and each other component is told by free ones that aren't later. Memory alone can be
-/// refused.
+/// The table of a framed group that isn't all plain.
+fn axis_form<R: Rank>(
+    alloc: Global,
+    group: &Group,
+    shape: &Shape<R>,
+    order: &Order<R>,
+) -> Result<Form<R>, SolveFault>
+    requires framed { IsFramed (In group.now) }
+    requires other { ¬ AllOf (In group.now) IsPlain }
+    ensures fits { IfOk result (λ f. (j : JahnSymbol) → IsShapeOf j R.R shape.now → Fits j (In group.now) (before_of order.now) (form_table R.R f)) }
+    ensures calm { IfOk result (λ _. (j : JahnSymbol) → IsShapeOf j R.R shape.now → Grows j (In group.now) (before_of order.now) → ⊥) }
+    ensures grows { IfErr result (λ e. e ≡ SolveFault.TooLarge → (j : JahnSymbol) → IsShapeOf j R.R shape.now → Grows j (In group.now) (before_of order.now)) }
+{
+    rows_decide_invariance();
+    one_elimination();
+    let _elements = group.len();
+    let classes = axis_classes(alloc, group, shape, order)?;
+    let rows = rows_of_words(alloc, &classes, order)?;
+    let form = eliminate_checked(alloc, &classes, &rows, order)?;
+    Ok(form)
+}
+
+/// The component table of the tensors of a symbol that a framed group leaves unchanged: its free components rise in the
+/// order, and each other component is told by free ones that aren't later. `TooLarge` comes exactly where the group
+/// isn't all plain and the elimination on the rows of its words grows.
 pub fn solve<R: Rank>(
     alloc: Global,
     group: &Group,
     shape: &Shape<R>,
     order: &Order<R>,
 ) -> Result<Form<R>, SolveFault>
-    requires { AllOf (In group.now) IsPlain }
+    requires { IsFramed (In group.now) }
     ensures fits { IfOk result (λ f. (j : JahnSymbol) → IsShapeOf j R.R shape.now → Fits j (In group.now) (before_of order.now) (form_table R.R f)) }
-    ensures memory { ¬ (result ≡ Err SolveFault.TooLarge) }
+    ensures calm { IfOk result (λ _. (j : JahnSymbol) → IsShapeOf j R.R shape.now → Grows j (In group.now) (before_of order.now) → ⊥) }
+    ensures grows { IfErr result (λ e. e ≡ SolveFault.TooLarge → (j : JahnSymbol) → IsShapeOf j R.R shape.now → Grows j (In group.now) (before_of order.now)) }
 {
-    match plain_form(alloc, group, shape, order) {
-        Ok(form) => Ok(form),
-        Err(_) => Err(SolveFault::NoMemory),
+    if group.is_all_plain() {
+        let form = plain_form(alloc, group, shape, order)?;
+        return Ok(form);
     }
+    axis_form(alloc, group, shape, order)
 }

@@ -1,9 +1,8 @@
 -- What is told of tables, carried over to the groups of symbols.
 use Rattle.std.proofs.Common.{◌≡◌, ◌↔◌, ◌⊎◌, ℕ, Bool, true, false, List, ◌++◌, ◌∷◌, [], refl, ap, ◌∙◌, inl, inr}
-use Rattle.std.specs.Prelude.{Result, Ok, Err, IfOk, OnOk, IsTrue, codes}
+use Rattle.std.specs.Prelude.{Result, Ok, Err, IfErr, IfOk, OnOk, IsTrue, codes}
 use Rattle.std.proofs.lemmas.List.{append_assoc}
 use Rattle.tensor_defs.specs.Elimination.{Grows}
-use Rattle.tensor_defs.specs.Frames.{AllOf, IsPlain}
 use Rattle.tensor_defs.specs.Jahn.{JahnSymbol}
 use Rattle.tensor_defs.specs.Operation.{Operation}
 use Rattle.tensor_defs.specs.Orders.{index_before}
@@ -21,13 +20,13 @@ pub ok_always : {T E P : Type 0} (r : Result T E) → P → OnOk r P
 ok_always (Ok x) p = p
 ok_always (Err e) p = tt
 
--- a group of plain operations has no elimination
-pub plain_told : (j : JahnSymbol) (r : ℕ) (H : Operation → Type 0) (res : Result FormValue SolveFault) →
-    AllOf H IsPlain → IfOk res (λ f. Fits j H index_before (form_table r f)) → (res ≡ Err TooLarge → ⊥) →
-    TellsTable j r H res
-plain_told j r H (Ok f) plain fits never = (fits, λ w. w.1 plain)
-plain_told j r H (Err TooLarge) plain fits never = absurd (never refl)
-plain_told j r H (Err NoMemory) plain fits never = tt
+-- the table that fits, where no elimination grows
+pub table_told : (j : JahnSymbol) (r : ℕ) (H : Operation → Type 0) (res : Result FormValue SolveFault) →
+    IfOk res (λ f. Fits j H index_before (form_table r f)) → IfOk res (λ _. Grows j H index_before → ⊥) →
+    IfErr res (λ e. e ≡ TooLarge → Grows j H index_before) → TellsTable j r H res
+table_told j r H (Ok f) fits calm grows = (fits, calm)
+table_told j r H (Err TooLarge) fits calm grows = grows refl
+table_told j r H (Err NoMemory) fits calm grows = tt
 
 -- after an error
 pub table_grows : (j : JahnSymbol) (r : ℕ) (H : Operation → Type 0) (e : SolveFault) → TellsTable j r H (Err e) →

@@ -2,7 +2,7 @@
 ghost use Rattle.std.specs.Prelude.{◌≡◌, ◌≤◌, ◌++◌, ◌∷◌, [], codes, IfErr, OnErr, OnOk, vec_capacity};
 ghost use Rattle.std.specs.Fmt.{decimal};
 ghost use Rattle.tensor_defs.specs.Elimination.{Grows};
-ghost use Rattle.tensor_defs.specs.Frames.{AllOf, IsPlain};
+ghost use Rattle.tensor_defs.specs.Frames.{IsFramed};
 ghost use Rattle.tensor_defs.specs.Group.{InGroup};
 ghost use Rattle.tensor_defs.specs.Jahn.{rank};
 ghost use Rattle.tensor_defs.specs.Lists.{IsListing};
@@ -116,7 +116,7 @@ fn form_at<R: Rank>(
     out: &mut Vec<u8>,
 ) -> Result<(), SolveFault>
     requires group { IsListing comes_before (InGroup g.now) group.now }
-    requires plain { AllOf (In group.now) IsPlain }
+    requires framed { IsFramed (In group.now) }
     requires shape { IsShapeOf (symbol_of jahn.now) R.R shape.now }
     ensures ok { OnOk result ((a : Table) × Fits (symbol_of jahn.now) (InGroup g.now) index_before a × (out.new.items ≡ out.old.items ++ form_text g.now (symbol_of jahn.now) a)) }
     ensures calm { OnOk result (Grows (symbol_of jahn.now) (InGroup g.now) index_before → ⊥) }
@@ -141,7 +141,7 @@ pub fn answer_form(
     out: &mut Vec<u8>,
 ) -> Result<(), SolveFault>
     requires group { IsListing comes_before (InGroup g.now) group.now }
-    requires plain { AllOf (In group.now) IsPlain }
+    requires framed { IsFramed (In group.now) }
     requires rank { rank (symbol_of jahn.now) ≤ 6 }
     ensures ok { OnOk result ((a : Table) × Fits (symbol_of jahn.now) (InGroup g.now) index_before a × (out.new.items ≡ out.old.items ++ form_text g.now (symbol_of jahn.now) a)) }
     ensures calm { OnOk result (Grows (symbol_of jahn.now) (InGroup g.now) index_before → ⊥) }

@@ -1,7 +1,7 @@
 //! The answer to a request whether two groups admit the same tensors.
 ghost use Rattle.std.specs.Prelude.{◌≡◌, ◌≤◌, ◌++◌, ◌∷◌, ◌⊎◌, [], true, false, IfErr, OnErr, OnOk, vec_capacity};
 ghost use Rattle.tensor_defs.specs.Elimination.{Grows};
-ghost use Rattle.tensor_defs.specs.Frames.{AllOf, IsPlain};
+ghost use Rattle.tensor_defs.specs.Frames.{IsFramed};
 ghost use Rattle.tensor_defs.specs.Group.{InGroup};
 ghost use Rattle.tensor_defs.specs.Jahn.{AdmitSame, rank};
 ghost use Rattle.tensor_defs.specs.Lists.{IsListing};
@@ -24,8 +24,8 @@ use tensor_rank::{at_rank, compile};
 
 /// Whether two groups admit the same tensors of a symbol.
 fn same_of(alloc: Global, one: &Group, other: &Group, jahn: &Jahn) -> Result<bool, SolveFault>
-    requires one { AllOf (In one.now) IsPlain }
-    requires other { AllOf (In other.now) IsPlain }
+    requires one { IsFramed (In one.now) }
+    requires other { IsFramed (In other.now) }
     requires rank { rank (symbol_of jahn.now) ≤ 6 }
     ensures { TellsSame (symbol_of jahn.now) (In one.now) (In other.now) result }
 {
@@ -99,8 +99,8 @@ pub fn answer_same(
 ) -> Result<(), SolveFault>
     requires one { IsListing comes_before (InGroup g.now) one.now }
     requires other { IsListing comes_before (InGroup h.now) other.now }
-    requires plain_one { AllOf (In one.now) IsPlain }
-    requires plain_other { AllOf (In other.now) IsPlain }
+    requires framed_one { IsFramed (In one.now) }
+    requires framed_other { IsFramed (In other.now) }
     requires rank { rank (symbol_of jahn.now) ≤ 6 }
     ensures ok { OnOk result ((AdmitSame (symbol_of jahn.now) (InGroup g.now) (InGroup h.now)
         × (out.new.items ≡ out.old.items ++ same_text g.now h.now (symbol_of jahn.now) true))

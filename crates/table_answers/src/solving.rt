@@ -1,5 +1,5 @@
 //! Tables in index order.
-ghost use Rattle.tensor_defs.specs.Frames.{AllOf, IsPlain};
+ghost use Rattle.tensor_defs.specs.Frames.{IsFramed};
 ghost use Rattle.tensor_defs.specs.Jahn.{JahnSymbol};
 ghost use Rattle.magnetic_groups.specs.Sets.{In};
 ghost use Rattle.tensor_rank.specs.Shapes.{IsShapeOf};
@@ -16,7 +16,7 @@ pub fn index_table<R: Rank>(
     group: &Group,
     shape: &Shape<R>,
 ) -> Result<Form<R>, SolveFault>
-    requires { AllOf (In group.now) IsPlain }
+    requires { IsFramed (In group.now) }
     ensures { (j : JahnSymbol) → IsShapeOf j R.R shape.now → TellsTable j R.R (In group.now) result }
 {
     solve(alloc, group, shape, &Order::index())
@@ -29,8 +29,8 @@ pub fn admit_same<R: Rank>(
     other: &Group,
     shape: &Shape<R>,
 ) -> Result<bool, SolveFault>
-    requires one { AllOf (In one.now) IsPlain }
-    requires other { AllOf (In other.now) IsPlain }
+    requires one { IsFramed (In one.now) }
+    requires other { IsFramed (In other.now) }
     ensures { (j : JahnSymbol) → IsShapeOf j R.R shape.now → TellsSame j (In one.now) (In other.now) result }
 {
     match index_table(alloc, one, shape) {

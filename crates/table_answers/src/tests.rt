@@ -14,9 +14,6 @@ fn has_form(alloc: Global, group: &str, word: &str, text: &str) -> Option<bool> 
     let tree = read_group(group.as_bytes()).ok()?;
     let elements = build_group(alloc, &tree).ok()?;
     let jahn = read_jahn(alloc, word.as_bytes()).ok()?;
-    if !elements.is_all_plain() {
-        return None;
-    }
     let mut out = Vec::new(alloc);
     answer_form(alloc, &tree, &elements, &jahn, &mut out).ok()?;
     Some(out.as_slice() == text.as_bytes())
@@ -32,9 +29,6 @@ fn has_same(alloc: Global, one: &str, other: &str, word: &str, text: &str) -> Op
     let first = build_group(alloc, &g).ok()?;
     let second = build_group(alloc, &h).ok()?;
     let jahn = read_jahn(alloc, word.as_bytes()).ok()?;
-    if !first.is_all_plain() || !second.is_all_plain() {
-        return None;
-    }
     let mut out = Vec::new(alloc);
     answer_same(alloc, &g, &h, &first, &second, &jahn, &mut out).ok()?;
     Some(out.as_slice() == text.as_bytes())

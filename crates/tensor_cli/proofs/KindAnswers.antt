@@ -2,7 +2,6 @@
 --   elements_grown, form_grown, same_grown, states_grown, pairs_grown    a list grew by the answer of the line
 use Rattle.std.proofs.Common.{◌≡◌, ◌⊎◌, inl, inr, ℕ, ◌+◌, ◌≤◌, ◌<◌, Bool, true, false, List, [], ◌∷◌, ◌++◌, length, refl}
 use Rattle.tensor_defs.specs.Elimination.{Grows}
-use Rattle.tensor_defs.specs.Frames.{AllOf, IsPlain}
 use Rattle.tensor_defs.specs.Group.{InGroup, IsAccepted}
 use Rattle.tensor_defs.specs.Jahn.{AdmitSame, JahnSymbol, rank}
 use Rattle.tensor_defs.specs.Lists.{IsListing}
@@ -31,13 +30,13 @@ elements_grown line old new g hs some short s accepted listing grown =
 
 pub form_grown : (line old new : List ℕ) (g : Named) (j : Span) (tree : JahnSymbol) → 0 < length line → length line ≤ 1000 →
     SpellsRequest line (Form (group_at g) (jahn_at j tree)) → IsAccepted g.tree → rank tree ≤ 6 →
-    AllOf (InGroup g.tree) IsPlain → (Grows tree (InGroup g.tree) index_before → ⊥) →
+    (Grows tree (InGroup g.tree) index_before → ⊥) →
     (a : Table) × Fits tree (InGroup g.tree) index_before a × (new ≡ old ++ form_text g.tree tree a) →
     IsGrownBy line old new
-form_grown line old new g j tree some short s accepted in_rank plain calm t =
+form_grown line old new g j tree some short s accepted in_rank calm t =
     open_grown line old new (Form (group_at g) (jahn_at j tree)) (form_text g.tree tree t.0) some short s
     (record {
-      built = plain;
+      built = tt;
       accepted = (accepted, tt);
       in_rank = in_rank;
       has_shape = tt;
@@ -48,15 +47,15 @@ form_grown line old new g j tree some short s accepted in_rank plain calm t =
 
 pub same_grown : (line old new : List ℕ) (g h : Named) (j : Span) (tree : JahnSymbol) → 0 < length line →
     length line ≤ 1000 → SpellsRequest line (Same (group_at g) (group_at h) (jahn_at j tree)) → IsAccepted g.tree →
-    IsAccepted h.tree → rank tree ≤ 6 → AllOf (InGroup g.tree) IsPlain → AllOf (InGroup h.tree) IsPlain →
+    IsAccepted h.tree → rank tree ≤ 6 →
     ((Grows tree (InGroup g.tree) index_before ⊎ Grows tree (InGroup h.tree) index_before) → ⊥) →
     (AdmitSame tree (InGroup g.tree) (InGroup h.tree) × (new ≡ old ++ same_text g.tree h.tree tree true))
     ⊎ ((AdmitSame tree (InGroup g.tree) (InGroup h.tree) → ⊥) × (new ≡ old ++ same_text g.tree h.tree tree false)) →
     IsGrownBy line old new
-same_grown line old new g h j tree some short s accepted other in_rank plain plain_other calm (inl t) =
+same_grown line old new g h j tree some short s accepted other in_rank calm (inl t) =
     open_grown line old new (Same (group_at g) (group_at h) (jahn_at j tree)) (same_text g.tree h.tree tree true) some short s
     (record {
-      built = (plain, plain_other);
+      built = tt;
       accepted = (accepted, (other, tt));
       in_rank = in_rank;
       has_shape = tt;
@@ -64,10 +63,10 @@ same_grown line old new g h j tree some short s accepted other in_rank plain pla
       calm = calm;
     })
     (inl (t.0, refl)) t.1
-same_grown line old new g h j tree some short s accepted other in_rank plain plain_other calm (inr t) =
+same_grown line old new g h j tree some short s accepted other in_rank calm (inr t) =
     open_grown line old new (Same (group_at g) (group_at h) (jahn_at j tree)) (same_text g.tree h.tree tree false) some short s
     (record {
-      built = (plain, plain_other);
+      built = tt;
       accepted = (accepted, (other, tt));
       in_rank = in_rank;
       has_shape = tt;

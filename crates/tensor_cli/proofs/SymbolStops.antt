@@ -2,25 +2,18 @@
 --   tensor_told, over_told    the symbol of a word that was read, or that its rank is above 6
 --   stop_of         the refusal that a stop is
 --   asked_at        the line spells the request with the tensor that was read
---   all_of_listed, all_of_group    a fact of all members of a listed group
 --   first_stop, second_stop, rank_stop    a group that isn't accepted, a rank above 6
 --   table_stop, state_stop    a table that grows, a group that isn't below the other
 use Rattle.std.proofs.Common.{◌≡◌, ℕ, ◌+◌, ◌-◌, ◌≤◌, take, drop, ◌<◌, ◌↔◌, Bool, IsTrue, true, false, List, [], ◌∷◌, length, refl, sym, subst, ap}
 use Rattle.std.specs.Prelude.{Some}
-use Rattle.tensor_defs.specs.Frames.{AllOf, IsPlain}
-use Rattle.tensor_defs.specs.Group.{InGroup, IsAccepted}
+use Rattle.tensor_defs.specs.Group.{IsAccepted}
 use Rattle.tensor_defs.specs.Jahn.{JahnSymbol, rank}
-use Rattle.tensor_defs.specs.Lists.{IsListing}
-use Rattle.tensor_defs.specs.Operation.{Operation}
-use Rattle.tensor_defs.specs.OperationOrder.{comes_before}
-use Rattle.tensor_defs.specs.Symbols.{GroupSymbol}
 use Rattle.text_defs.specs.JahnTexts.{SpellsJahn}
 use Rattle.text_laws.proofs.JahnUnique.{one_jahn}
 use Rattle.jahn_grammar.specs.Symbols.{symbol_of}
 use Rattle.jahn_grammar.specs.declared.Jahn.{Jahn}
 use Rattle.text_defs.specs.Refusals.{AreAccepted, HasShape, InRank, IsNotSub, IsOutside, RefusalWord, RequestGrows, groups_of, jahn_of}
 use Rattle.text_defs.specs.Requests.{GroupAt, JahnAt, Request, SpellsRequest}
-use Rattle.magnetic_groups.specs.Sets.{In}
 use Rattle.reduced_form.specs.declared.memory.SolveFault.{SolveFault}
 use Rattle.reduced_form.specs.declared.memory.SolveFault.TheVariants as table_fault
 use Rattle.coset_states.specs.declared.StateFault.{StateFault}
@@ -51,19 +44,6 @@ pub over_told : (line : List ℕ) (j : Span) (b : JahnAt) →
     (k : JahnSymbol) × SpellsJahn (take (j.end - j.start) (drop j.start line)) k × (6 < rank k) → TellsJahn line j b →
     6 < rank b.jahn
 over_told line j b read t = subst (λ k. 6 < rank k) (one_jahn _ read.0 b.jahn read.1 t.spells) read.2
-
--- ---- members of a group
-pub all_of_group : (t : GroupSymbol) (gs : List Operation) (P : Operation → Type 0) → IsListing comes_before (InGroup t) gs →
-    AllOf (In gs) P → AllOf (InGroup t) P
-all_of_group t gs P l all g m = all g ((l.members g).1 m)
-
-pub all_of_listed : (t : GroupSymbol) (gs : List Operation) (P : Operation → Type 0) → IsListing comes_before (InGroup t) gs →
-    AllOf (InGroup t) P → AllOf (In gs) P
-all_of_listed t gs P l all g m = all g ((l.members g).0 m)
-
-pub refuted : {A : Type 0} → (b : Bool) → b ≡ false → (IsTrue b ↔ A) → A → ⊥
-refuted true e both a = cc
-refuted false e both a = cc (both.1 a)
 
 -- ---- stops
 -- the refusal with a word and a column

@@ -1,6 +1,6 @@
--- What this stage of the program answers: the component tables of groups of signed permutation matrices, whether two such
--- groups admit the same tensors, the elements of groups, domain states and pair classes. Every line is read, and refused
--- where it is no request, where a group isn't accepted, or where a rank is above 6.
+-- What this stage of the program answers: component tables, whether two groups admit the same tensors, the elements of
+-- groups, domain states and pair classes. Every line is read, and refused where it is no request, where a group isn't
+-- accepted, or where a rank is above 6.
 --   StageWord       a word of a refusal: one of the seven, or unbuilt for a request that is not answered yet
 --   stage_refusal_text    the text of a refusal
 --   IsBuilt         the request is one that this stage answers
@@ -13,8 +13,6 @@
 -- Source: this project's own.
 use Rattle.std.specs.Prelude.{◌≡◌, ◌⊎◌, ℕ, ◌≤◌, List, [], ◌∷◌, length, codes}
 use Rattle.std.specs.Fmt.{decimal}
-use Rattle.tensor_defs.specs.Frames.{AllOf, IsPlain}
-use Rattle.tensor_defs.specs.Group.{InGroup}
 use Rattle.text_defs.specs.AnswerTexts.{line_of}
 use Rattle.text_defs.specs.Refusals.{RefusalWord, Refuses, refusal_text, AreAccepted, InRank, jahn_of}
 use Rattle.text_defs.specs.Refusals.RefusalWord.{Long, Syntax, Primes, Rank}
@@ -32,13 +30,13 @@ stage_refusal_text number column Unbuilt =
     line_of (codes "error" ∷ decimal number ∷ decimal column ∷ codes "unbuilt" ∷ [])
 
 abbrev pub IsBuilt : Request → Type 0
-IsBuilt (Form g j) = AllOf (InGroup g.symbol) IsPlain
+IsBuilt (Form g j) = Unit {0}
 IsBuilt (Group g) = Unit {0}
 IsBuilt (Voigt g j w) = ⊥
 IsBuilt (States g f) = Unit {0}
 IsBuilt (Pairs g f) = Unit {0}
 IsBuilt (Differ g f j) = ⊥
-IsBuilt (Same g h j) = AllOf (InGroup g.symbol) IsPlain × AllOf (InGroup h.symbol) IsPlain
+IsBuilt (Same g h j) = Unit {0}
 
 pub record IsUnbuilt (line : List ℕ) : Type 0 where
   pub request : Request

@@ -1,7 +1,5 @@
 //! The answers to requests of each kind, and the refusals of their symbols.
-ghost use Rattle.std.specs.Prelude.{◌≡◌, ◌<◌, ◌≤◌, ◌↔◌, IfErr, IsErrAnd, IsTrue, OnErr, OnOk, length, vec_capacity};
-ghost use Rattle.tensor_defs.specs.Frames.{AllOf, IsPlain};
-ghost use Rattle.magnetic_groups.specs.Sets.{In};
+ghost use Rattle.std.specs.Prelude.{◌≡◌, ◌<◌, ◌≤◌, IfErr, IsErrAnd, OnErr, OnOk, length, vec_capacity};
 ghost use Rattle.text_defs.specs.Requests as defs;
 ghost use Rattle.text_defs.specs.Requests.{SpellsRequest};
 ghost use Rattle.request_lines.specs.Readings.{Tells};
@@ -11,7 +9,6 @@ use crate::refusals::{NoAnswer, Refusal, Word};
 use crate::symbols::{accepted_group, tensor_in_rank};
 use answer_writers::write_elements;
 use coset_states::StateFault;
-use magnetic_groups::Group;
 use reduced_form::SolveFault;
 use request_lines::{Named, Request, Span, Weights};
 use state_answers::{answer_pairs, answer_states};
@@ -70,20 +67,10 @@ fn form(alloc: Global, line: &[u8], g: &Named, j: Span, out: &mut Vec<u8>) -> Re
 {
     let group = accepted_group(alloc, g)?;
     let jahn = tensor_in_rank(alloc, line, j)?;
-    if !group.is_all_plain() {
-        return Err(NoAnswer::Refused(Refusal::UNBUILT));
-    }
     match answer_form(alloc, &g.tree, &group, &jahn, out) {
         Ok(()) => Ok(()),
         Err(fault) => Err(table_fault(fault, j)),
     }
-}
-
-/// Whether two groups consist of signed permutation matrices.
-fn are_plain(one: &Group, other: &Group) -> bool
-    ensures { IsTrue result ↔ (AllOf (In one.now) IsPlain × AllOf (In other.now) IsPlain) }
-{
-    one.is_all_plain() && other.is_all_plain()
 }
 
 /// Whether two groups admit the same tensors.
@@ -106,9 +93,6 @@ fn same(
     let one = accepted_group(alloc, g)?;
     let other = accepted_group(alloc, h)?;
     let jahn = tensor_in_rank(alloc, line, j)?;
-    if !are_plain(&one, &other) {
-        return Err(NoAnswer::Refused(Refusal::UNBUILT));
-    }
     match answer_same(alloc, &g.tree, &h.tree, &one, &other, &jahn, out) {
         Ok(()) => Ok(()),
         Err(fault) => Err(table_fault(fault, j)),

@@ -1,4 +1,4 @@
-use Rattle.std.proofs.Common.{◌≡◌, ℕ, ◌<◌, get_or, length}
+use Rattle.std.proofs.Common.{ℕ, ◌<◌, get_or}
 use Rattle.tensor_defs.specs.Operation.{identity}
 use Rattle.tensor_defs.specs.Tensor.{index_of}
 use Rattle.tensor_rank.specs.Flags.{marks_of}

@@ -1,4 +1,4 @@
-use Rattle.std.proofs.Common.{◌≡◌, refl, sym, ◌∙◌}
+use Rattle.std.proofs.Common.{refl, sym, ◌∙◌}
 use Rattle.constraint_rows.proofs.DiagonalLaws.{diagonal_plain, not_turns_by, turns_by}
 use Rattle.constraint_rows.proofs.axis.turns_round.Goals as goal
 

@@ -1,4 +1,3 @@
-use Rattle.std.proofs.Common.{◌≡◌}
 use Rattle.constraint_rows.proofs.ClassLaws.{classes_told}
 use Rattle.constraint_rows.proofs.MakingLaws.{plain_table_made, table_settled}
 use Rattle.constraint_rows.proofs.classing.plain_classes.Goals as goal

@@ -1,12 +1,11 @@
-use Rattle.std.proofs.Common.{◌≡◌, ◌≢◌, ◌<◌, List, ap, arith, sym, ◌∙◌, rules, subst, length}
+use Rattle.std.proofs.Common.{◌≡◌, ◌≢◌, ◌<◌, List, ap, arith, sym, ◌∙◌, subst, length}
 use Rattle.std.proofs.lemmas.List.{get_or_read}
 use Rattle.std.proofs.lemmas.Int.{ints}
 use Rattle.std.specs.Prelude.{insert}
-use lib.IntN.{ℤ, pos, ◌+ℤ◌}
 use mir.Syntax.{w64}
 use mir.Val.{to_z, of_z}
 use Rattle.tensor_rank.specs.Orders.{before_at}
-use Rattle.constraint_rows.specs.Gathering.{IsPlaceFor, added, part, part_at_place, unit}
+use Rattle.constraint_rows.specs.Gathering.{IsPlaceFor, part, part_at_place, unit}
 use Rattle.constraint_rows.specs.declared.rows.Part.{Part}
 use Rattle.constraint_rows.proofs.GatherLaws.{added_new, added_old, nothing_and}
 use Rattle.constraint_rows.proofs.gathering.add_part.Goals as goal

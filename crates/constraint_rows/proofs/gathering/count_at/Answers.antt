@@ -1,10 +1,10 @@
-use Rattle.std.proofs.Common.{◌≡◌, ◌≢◌, set, ap, arith, sym, ◌∙◌, rules, subst}
+use Rattle.std.proofs.Common.{◌≡◌, ◌≢◌, set, ap, arith, ◌∙◌, rules}
 use Rattle.std.proofs.lemmas.List.{get_or_read}
-use Rattle.std.proofs.lemmas.Int.{ints, to_z-of_z}
+use Rattle.std.proofs.lemmas.Int.{ints}
 use lib.IntN.{ℤ, pos, ◌+ℤ◌}
 use mir.Syntax.{w64}
 use mir.Val.{SFits, to_z, of_z}
-use Rattle.constraint_rows.specs.Gathering.{counted_at, part, part_at_place, unit}
+use Rattle.constraint_rows.specs.Gathering.{part, part_at_place, unit}
 use Rattle.constraint_rows.specs.declared.rows.Part.{Part}
 use Rattle.constraint_rows.proofs.GatherLaws.{counted_kept}
 use Rattle.constraint_rows.proofs.gathering.count_at.Goals as goal

@@ -1,4 +1,3 @@
-use Rattle.std.proofs.Common.{◌≡◌}
 use Rattle.tensor_rank.specs.Flags.{marks_of}
 use Rattle.constraint_rows.proofs.ReadingLaws.{three_stand, whole_sign}
 use Rattle.constraint_rows.proofs.reading.plain_of.Goals as goal

@@ -1,7 +1,7 @@
-use Rattle.std.proofs.Common.{◌≡◌, ℕ, Bool, sym, subst}
+use Rattle.std.proofs.Common.{ℕ, Bool, sym, subst}
 use Rattle.tensor_defs.specs.Operation.{value}
 use Rattle.op_matrix.specs.View.{axis}
-use Rattle.constraint_rows.specs.Reading.{RowReads, row_negates, unit_column}
+use Rattle.constraint_rows.specs.Reading.{RowReads, unit_column}
 use Rattle.constraint_rows.proofs.ReadingLaws.{row_reads}
 use Rattle.constraint_rows.proofs.reading.row_of.Goals as goal
 

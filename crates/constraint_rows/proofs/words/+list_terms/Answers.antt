@@ -2,7 +2,7 @@ use Rattle.std.proofs.Common.{◌≡◌, ◌≢◌, ◌+◌, ◌*◌, ◌<◌, L
 use Rattle.tensor_defs.specs.Tensor.{digit, index_of}
 use Rattle.tensor_defs.specs.Words.{Word, level}
 use Rattle.tensor_rank.specs.IndexLaws.{nth}
-use Rattle.constraint_rows.specs.Gathering.{letter_of, terms_from, word_at}
+use Rattle.constraint_rows.specs.Gathering.{terms_from, word_at}
 use Rattle.constraint_rows.specs.declared.words.Term.{Term}
 use Rattle.constraint_rows.proofs.WordLaws.{letter_one, letter_split, no_letter, number_fits, terms_split}
 use Rattle.constraint_rows.proofs.words.+list_terms.Goals as goal

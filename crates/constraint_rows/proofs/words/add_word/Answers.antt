@@ -1,4 +1,4 @@
-use Rattle.std.proofs.Common.{◌≡◌, ◌≤◌, ◌++◌, List, [], length, true, ap, arith, sym, ◌∙◌, subst}
+use Rattle.std.proofs.Common.{◌≡◌, ◌≤◌, ◌++◌, List, length, ap, sym, ◌∙◌, subst}
 use Rattle.tensor_rank.specs.Orders.{before_at}
 use Rattle.constraint_rows.specs.Gathering.{AreTermsBelow, terms_from, word_at}
 use Rattle.constraint_rows.specs.declared.words.Term.{Term}

@@ -1,4 +1,4 @@
-use Rattle.std.proofs.Common.{◌≡◌, ◌≢◌, ◌+◌, ◌*◌, ◌-◌, ◌≤◌, ◌<◌, drop, [], ap, sym, ◌∙◌, arith}
+use Rattle.std.proofs.Common.{◌≡◌, ◌≢◌, ◌+◌, ◌*◌, ◌-◌, drop, [], ap, sym, ◌∙◌, arith}
 use Rattle.tensor_defs.specs.Tensor.{digit, index_of}
 use Rattle.tensor_defs.specs.Words.{Word, level, plus, minus, begins_plus, minus_count, plus_count}
 use Rattle.tensor_rank.specs.IndexLaws.{nth}

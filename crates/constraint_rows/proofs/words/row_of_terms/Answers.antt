@@ -1,9 +1,7 @@
-use Rattle.std.proofs.Common.{◌≡◌, ◌≤◌, List, [], length, take, ap, arith, sym, ◌∙◌, subst}
-use Rattle.std.proofs.lemmas.List.{take_all}
+use Rattle.std.proofs.Common.{ap, arith, sym, ◌∙◌, subst}
 use Rattle.tensor_rank.specs.Orders.{before_at}
-use Rattle.constraint_rows.specs.Gathering.{AreSmallParts, gathered, term_added}
+use Rattle.constraint_rows.specs.Gathering.{AreSmallParts, term_added}
 use Rattle.constraint_rows.specs.WordRows.{AreParts}
-use Rattle.constraint_rows.specs.declared.rows.Part.{Part}
 use Rattle.constraint_rows.proofs.GatherLaws.{gathered_more, gathered_small}
 use Rattle.constraint_rows.proofs.words.row_of_terms.Goals as goal
 

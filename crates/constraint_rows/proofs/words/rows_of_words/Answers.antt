@@ -1,4 +1,4 @@
-use Rattle.std.proofs.Common.{◌≡◌, ◌^◌, List, filter, ap, arith, sym, ◌∙◌, subst}
+use Rattle.std.proofs.Common.{◌≡◌, List, filter, ap, arith, ◌∙◌, subst}
 use Rattle.tensor_defs.specs.Words.{Word, is_used, words}
 use Rattle.tensor_rank.specs.Orders.{before_at}
 use Rattle.constraint_rows.specs.Gathering.{words_below}

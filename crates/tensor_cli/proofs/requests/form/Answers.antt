@@ -1,12 +1,10 @@
 use Rattle.std.proofs.Common.{[], refl}
 use Rattle.std.proofs.lemmas.Result.{err_from_is_err_and}
-use Rattle.tensor_defs.specs.Frames.{IsPlain}
 use Rattle.text_defs.specs.Requests.Request.{Form}
 use Rattle.jahn_grammar.specs.Symbols.{symbol_of}
 use Rattle.tensor_cli.specs.Asked.{group_at, jahn_at}
 use Rattle.tensor_cli.proofs.KindAnswers.{form_grown}
-use Rattle.tensor_cli.proofs.OpenLines.{unbuilt_stop}
-use Rattle.tensor_cli.proofs.SymbolStops.{all_of_group, all_of_listed, asked_at, first_stop, rank_stop, refuted, table_stop}
+use Rattle.tensor_cli.proofs.SymbolStops.{asked_at, first_stop, rank_stop, table_stop}
 use Rattle.tensor_cli.proofs.requests.form.Goals as goal
 
 pub returns-in_err-group-clause-stop : goal.returns-in_err-group-clause-stop
@@ -24,16 +22,6 @@ returns-in_err-jahn-clause-stop c =
     c.requires.short c.requires.asked.1.spelled (c.in_ok-group.ensures.accepted, tt) refl c.requires.asked.1.told
     c.in_err-jahn.ensures.refused)
 
-pub returns-then-not-is_all_plain-clause-stop : goal.returns-then-not-is_all_plain-clause-stop
-returns-then-not-is_all_plain-clause-stop c =
-    let tree = symbol_of c.in_ok-jahn.jahn in
-    unbuilt_stop c.args.line.now (Form (group_at c.args.g.now) (jahn_at c.args.j tree)) c.requires.short
-    (asked_at c.args.line.now c.args.j (λ b. Form (group_at c.args.g.now) b) tree c.requires.asked.1
-    c.in_ok-jahn.ensures.jahn)
-    (c.in_ok-group.ensures.accepted, tt) c.in_ok-jahn.ensures.rank
-    (λ plain. refuted c.is_all_plain.result c.if-not-is_all_plain.true c.is_all_plain.ensures.is
-    (all_of_listed c.args.g.now.tree c.in_ok-group.group IsPlain c.in_ok-group.ensures.group plain))
-
 pub returns-in-Ok-clause-ok : goal.returns-in-Ok-clause-ok
 returns-in-Ok-clause-ok c =
     let tree = symbol_of c.in_ok-jahn.jahn in
@@ -42,8 +30,6 @@ returns-in-Ok-clause-ok c =
     (asked_at c.args.line.now c.args.j (λ b. Form (group_at c.args.g.now) b) tree c.requires.asked.1
     c.in_ok-jahn.ensures.jahn)
     c.in_ok-group.ensures.accepted c.in_ok-jahn.ensures.rank
-    (all_of_group c.args.g.now.tree c.in_ok-group.group IsPlain c.in_ok-group.ensures.group
-    (c.is_all_plain.ensures.is.0 c.if-not-is_all_plain.false))
     c.in-Ok.ensures.calm c.in-Ok.ensures.ok
 
 pub returns-clause-stop : goal.returns-clause-stop
@@ -53,7 +39,5 @@ returns-clause-stop c =
     c.table_fault.result c.requires.short
     (asked_at c.args.line.now c.args.j (λ b. Form (group_at c.args.g.now) b) tree c.requires.asked.1
     c.in_ok-jahn.ensures.jahn)
-    (all_of_group c.args.g.now.tree c.in_ok-group.group IsPlain c.in_ok-group.ensures.group
-    (c.is_all_plain.ensures.is.0 c.if-not-is_all_plain.false))
-    (c.in_ok-group.ensures.accepted, tt) c.in_ok-jahn.ensures.rank tt (λ k x n. n) c.in-Err.ensures.grows refl
+    tt (c.in_ok-group.ensures.accepted, tt) c.in_ok-jahn.ensures.rank tt (λ k x n. n) c.in-Err.ensures.grows refl
     c.table_fault.ensures

@@ -1,13 +1,10 @@
 use Rattle.std.proofs.Common.{[], ◌∷◌, ⊎_elim, refl}
 use Rattle.std.proofs.lemmas.Result.{err_from_is_err_and}
-use Rattle.tensor_defs.specs.Frames.{IsPlain}
 use Rattle.text_defs.specs.Requests.Request.{Same}
 use Rattle.jahn_grammar.specs.Symbols.{symbol_of}
 use Rattle.tensor_cli.specs.Asked.{group_at, jahn_at}
 use Rattle.tensor_cli.proofs.KindAnswers.{same_grown}
-use Rattle.tensor_cli.proofs.OpenLines.{unbuilt_stop}
-use Rattle.tensor_cli.proofs.SymbolStops.{all_of_group, all_of_listed, asked_at, first_stop, rank_stop, refuted, second_stop}
-use Rattle.tensor_cli.proofs.SymbolStops.{table_stop}
+use Rattle.tensor_cli.proofs.SymbolStops.{asked_at, first_stop, rank_stop, second_stop, table_stop}
 use Rattle.tensor_cli.proofs.requests.same.Goals as goal
 
 pub returns-in_err-one-clause-stop : goal.returns-in_err-one-clause-stop
@@ -35,42 +32,22 @@ returns-in_err-jahn-clause-stop c =
     (c.in_ok-one.ensures.accepted, (c.in_ok-other.ensures.accepted, tt)) refl c.requires.asked.2.told
     c.in_err-jahn.ensures.refused)
 
-pub returns-then-not-are_plain-clause-stop : goal.returns-then-not-are_plain-clause-stop
-returns-then-not-are_plain-clause-stop c =
-    let tree = symbol_of c.in_ok-jahn.jahn in
-    unbuilt_stop c.args.line.now (Same (group_at c.args.g.now) (group_at c.args.h.now) (jahn_at c.args.j tree))
-    c.requires.short
-    (asked_at c.args.line.now c.args.j (λ b. Same (group_at c.args.g.now) (group_at c.args.h.now) b) tree
-    c.requires.asked.2 c.in_ok-jahn.ensures.jahn)
-    (c.in_ok-one.ensures.accepted, (c.in_ok-other.ensures.accepted, tt)) c.in_ok-jahn.ensures.rank
-    (λ plain. refuted c.are_plain.result c.if-not-are_plain.true c.are_plain.ensures (
-      all_of_listed c.args.g.now.tree c.in_ok-one.one IsPlain c.in_ok-one.ensures.group plain.0,
-      all_of_listed c.args.h.now.tree c.in_ok-other.other IsPlain c.in_ok-other.ensures.group plain.1,
-    ))
-
 pub returns-in-Ok-clause-ok : goal.returns-in-Ok-clause-ok
 returns-in-Ok-clause-ok c =
     let tree = symbol_of c.in_ok-jahn.jahn in
-    let plain = c.are_plain.ensures.0 c.if-not-are_plain.false in
     same_grown c.args.line.now c.args.out.now.items c.answer_same.new.out.items c.args.g.now c.args.h.now c.args.j tree
     c.requires.some c.requires.short
     (asked_at c.args.line.now c.args.j (λ b. Same (group_at c.args.g.now) (group_at c.args.h.now) b) tree
     c.requires.asked.2 c.in_ok-jahn.ensures.jahn)
     c.in_ok-one.ensures.accepted c.in_ok-other.ensures.accepted c.in_ok-jahn.ensures.rank
-    (all_of_group c.args.g.now.tree c.in_ok-one.one IsPlain c.in_ok-one.ensures.group plain.0)
-    (all_of_group c.args.h.now.tree c.in_ok-other.other IsPlain c.in_ok-other.ensures.group plain.1)
     (⊎_elim c.in-Ok.ensures.calm_one c.in-Ok.ensures.calm_other) c.in-Ok.ensures.ok
 
 pub returns-clause-stop : goal.returns-clause-stop
 returns-clause-stop c =
     let tree = symbol_of c.in_ok-jahn.jahn in
-    let plain = c.are_plain.ensures.0 c.if-not-are_plain.false in
     table_stop c.args.line.now (Same (group_at c.args.g.now) (group_at c.args.h.now) (jahn_at c.args.j tree)) c.args.j tree
     c.in-Err.fault c.table_fault.result c.requires.short
     (asked_at c.args.line.now c.args.j (λ b. Same (group_at c.args.g.now) (group_at c.args.h.now) b) tree
-    c.requires.asked.2 c.in_ok-jahn.ensures.jahn) (
-      all_of_group c.args.g.now.tree c.in_ok-one.one IsPlain c.in_ok-one.ensures.group plain.0,
-      all_of_group c.args.h.now.tree c.in_ok-other.other IsPlain c.in_ok-other.ensures.group plain.1,
-    )
+    c.requires.asked.2 c.in_ok-jahn.ensures.jahn) tt
     (c.in_ok-one.ensures.accepted, (c.in_ok-other.ensures.accepted, tt)) c.in_ok-jahn.ensures.rank tt (λ k x n. n)
     c.in-Err.ensures.grows refl c.table_fault.ensures

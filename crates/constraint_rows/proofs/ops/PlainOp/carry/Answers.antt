@@ -1,4 +1,4 @@
-use Rattle.std.proofs.Common.{ℕ, subst, rules, arith, ◌≡◌, ◌+◌, ◌-◌, ◌<◌, ◌≤◌, ◌^◌, ap, sym, ◌∙◌, refl}
+use Rattle.std.proofs.Common.{ℕ, subst, arith, ◌≡◌, ◌+◌, ◌-◌, ◌<◌, ◌≤◌, ◌^◌, ap, ◌∙◌, refl}
 use Rattle.tensor_rank.specs.Digits.{digit_of, number_of}
 use Rattle.sign_moves.specs.Signs.{times}
 use Rattle.tensor_defs.specs.Tensor.{axis_place, index_of}

@@ -1,4 +1,4 @@
-use Rattle.std.proofs.Common.{◌≡◌, ℕ}
+use Rattle.std.proofs.Common.{◌≡◌}
 use Rattle.tensor_rank.specs.Digits.{digit_of, number_of}
 use Rattle.constraint_rows.specs.PlainOps.{image, signs_of}
 use Rattle.constraint_rows.proofs.ops.PlainOp.carry.Given as goal

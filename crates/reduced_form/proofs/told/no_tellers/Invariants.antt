@@ -1,0 +1,10 @@
+use Rattle.std.proofs.Common.{◌≡◌, ℕ, length}
+use Rattle.std.specs.Prelude.{None}
+use Rattle.reduced_form.specs.Eliminated.{teller}
+use Rattle.reduced_form.proofs.told.no_tellers.Given as goal
+
+abbrev pub invariant-loop : goal.invariant-loop
+invariant-loop l = record {
+  len : length l.tellers.items ≡ l.counter;
+  none : (k : ℕ) → teller l.tellers.items k ≡ None;
+}
