@@ -22,7 +22,8 @@ use std::alloc::Global;
 use std::marker::{Model, PhantomData};
 use tensor_rank::{Comp, Exchange, ExchangeMoves, Flags, Order, Rank, Shape};
 
-/// The classes of the components of rank R under a group and the exchanges of a symbol's blocks, in an order.
+/// Classes of the components of rank R, each with the component that stands for it: those under a group of plain
+/// operations, or those on the hexagonal axes.
 #[derive(Drop)]
 pub struct Classes<R: Rank> {
     table: Vec<Entry>,
@@ -70,7 +71,8 @@ pub(crate) fn plain_table<R: Rank>(
     Ok(table)
 }
 
-/// The classes of the components under a group of plain operations and the exchanges of a symbol's blocks.
+/// The classes of the components under a group of plain operations and the exchanges of a symbol's blocks: none where
+/// each invariant tensor is zero, else the first component in the order to which group elements and exchanges carry it.
 pub fn plain_classes<R: Rank>(
     alloc: Global,
     group: &Group,
@@ -101,8 +103,8 @@ impl<R: Rank> Classes<R> {
         }
     }
 
-    /// The first component, in the order, to which group elements and exchanges of blocks carry c, and the sign
-    /// between the two in each invariant tensor. None exactly where each invariant tensor is zero at c.
+    /// The component that stands for the class of c, and the sign between the two in each tensor that the classes are
+    /// made for. None where each of these tensors is zero at c.
     pub fn of(&self, c: Comp<R>) -> Option<(Comp<R>, Sign)>
         ensures { result ≡ class_at self.now c }
     {

@@ -1,6 +1,7 @@
 //! Classes of components under groups of signed permutation matrices and exchanges of index blocks: where each
-//! invariant tensor is zero, and by which component, up to a sign, each other one is told. Source: International
-//! Tables for Crystallography D 1.1.
+//! invariant tensor is zero, and by which component, up to a sign, each other one is told. For groups on the hexagonal
+//! axes the classes under the exchanges and the diagonal elements, and the rows that the threefold rotation gives.
+//! Source: International Tables for Crystallography D 1.1.
 #![tactic(auto)]
 
 mod axis;

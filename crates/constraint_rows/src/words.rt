@@ -3,7 +3,7 @@ ghost use Rattle.std.specs.Prelude.{◌≡◌, ℕ, ◌+◌, ◌*◌, ◌^◌, �
 ghost use Rattle.tensor_defs.specs.Elimination.{AreRepresentatives};
 ghost use Rattle.tensor_defs.specs.Frames.{AllOf, IsFramed, IsPlain};
 ghost use Rattle.tensor_defs.specs.Jahn.{JahnSymbol};
-ghost use Rattle.tensor_defs.specs.Words.{Letter, is_used, words};
+ghost use Rattle.tensor_defs.specs.Words.{is_used, words};
 ghost use Rattle.magnetic_groups.specs.Sets.{In};
 ghost use Rattle.sign_moves.specs.declared.classes.Entry.{Entry};
 ghost use Rattle.tensor_rank.specs.Orders.{before_at, before_of};

@@ -14,7 +14,7 @@ use Rattle.tensor_defs.specs.Symbols.{GroupSymbol, operator_count, takes_setting
 use Rattle.tensor_defs.specs.Names.{IsNamed, IsNameOf, symbols, symbols_with, settings_of, turned_bits}
 use Rattle.group_names.specs.LookUps.{IsFirstNamed, pattern}
 
-each_join : (P : GroupSymbol → Type 0) (xs ys : List GroupSymbol) → Each P xs → Each P ys → Each P (xs ++ ys)
+pub each_join : (P : GroupSymbol → Type 0) (xs ys : List GroupSymbol) → Each P xs → Each P ys → Each P (xs ++ ys)
 each_join P [] ys e f = f
 each_join P (x ∷ xs) ys e f = (e.0, each_join P xs ys e.1 f)
 

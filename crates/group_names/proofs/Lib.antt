@@ -1,3 +1,5 @@
 pub mod FirstNamed
 pub mod PrimePatterns
 pub mod Names
+pub mod Orders
+pub mod RuledOut

@@ -1,13 +1,17 @@
 -- The looking up of names.
 --   HoldsAll        each of the operations is an element
 --   IsFirstNamed    the first accepted symbol of a list with the elements of a group, or that there is none
+--   order_of        the order of the group of a parent's symbol without primes
+--   BoundsOrder     at most the order of the parent of each symbol that names a group
 --   pattern         the symbol of a parent, a setting and a pattern of primes, given by its look-up number
-use Rattle.std.specs.Prelude.{◌≡◌, ℕ, false, List, [], ◌∷◌, ◌++◌, Option, Some, None, Contains}
+use Rattle.std.specs.Prelude.{◌≡◌, ℕ, ◌-◌, ◌≤◌, false, List, [], ◌∷◌, ◌++◌, Option, Some, None, Contains, slice_index}
 use Rattle.tensor_defs.specs.declared.Setting.{Setting}
 use Rattle.tensor_defs.specs.Lists.{Each}
 use Rattle.tensor_defs.specs.Operation.{Operation}
-use Rattle.tensor_defs.specs.Symbols.{GroupSymbol, operator_count}
+use Rattle.tensor_defs.specs.Symbols.{GroupSymbol, IsGroupSymbol, operator_count}
 use Rattle.tensor_defs.specs.Names.{IsNamed, turned_bits}
+use Rattle.magnetic_groups.specs.Sets.{In}
+use Rattle.group_names.specs.declared.TheConstants.{ORDERS}
 
 abbrev pub HoldsAll : List Operation → List Operation → Type 0
 HoldsAll xs gs = (g : Operation) → Contains gs g → Contains xs g
@@ -21,3 +25,9 @@ IsFirstNamed H ts None = Each (λ u. ¬ IsNamed u H) ts
 abbrev pub pattern : ℕ → Setting → ℕ → List GroupSymbol
 pattern n s p =
     record { parent = n; primes = turned_bits (operator_count n) p; grey = false; setting = s } ∷ []
+
+unfoldable pub order_of : ℕ → ℕ
+order_of n = slice_index ORDERS (n - 1)
+
+abbrev pub BoundsOrder : List Operation → ℕ → Type 0
+BoundsOrder xs n = (t : GroupSymbol) → IsGroupSymbol t → IsNamed t (In xs) → n ≤ order_of t.parent

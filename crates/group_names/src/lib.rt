@@ -11,7 +11,7 @@ ghost use Rattle.tensor_defs.specs.Names.{IsNamed, IsNameOf, settings_of, symbol
 ghost use Rattle.tensor_defs.specs.Symbols.{IsGroupSymbol, operator_count, takes_setting};
 ghost use Rattle.group_symbol.specs.Readings.{symbol_of};
 ghost use Rattle.magnetic_groups.specs.Sets.{In, IsGroup};
-ghost use Rattle.group_names.specs.LookUps.{IsFirstNamed, HoldsAll, pattern};
+ghost use Rattle.group_names.specs.LookUps.{BoundsOrder, IsFirstNamed, HoldsAll, order_of, pattern};
 
 #[cfg(test)]
 mod tests;
@@ -175,12 +175,48 @@ fn name_among(
     Ok(None)
 }
 
-/// The first name among the symbols of a parent.
-fn name_under(alloc: Global, group: &Group, parent: Parent) -> Result<Option<SymbolTree>, NoMemory>
+/// The orders of the groups of the parents.
+#[rattlefmt::skip]
+static ORDERS: [u8; 42] = [
+    1, 2, 2, 2, 4, 4, 4, 4, 4, 8, 4, 4, 8, 8, 8, 8, 8, 16,
+    3, 6, 6, 6, 6, 6, 6, 6, 12, 12, 12, 6, 6, 12, 12, 12, 12, 12, 24,
+    12, 24, 24, 24, 48,
+];
+
+/// The order of a parent's group.
+fn order_of(parent: Parent) -> usize
+    ensures { result ≡ order_of parent }
+{
+    ORDERS[parent.number() as usize - 1] as usize
+}
+
+/// How many matrices the elements have: a group with time reversal alone has each matrix twice, any other once.
+fn count_matrices(group: &Group) -> usize
+    ensures { BoundsOrder group.now result }
+{
+    let size = group.len();
+    if group.has(&Op::reversal()) {
+        size / 2
+    } else {
+        size
+    }
+}
+
+/// The first name among the symbols of a parent. A parent with fewer matrices than the group names none.
+fn name_under(
+    alloc: Global,
+    group: &Group,
+    parent: Parent,
+    matrices: usize,
+) -> Result<Option<SymbolTree>, NoMemory>
     requires first { 1 ≤ parent }
     requires last { parent ≤ 42 }
+    requires bounded { BoundsOrder group.now matrices }
     ensures { IfOk result (IsFirstNamed (In group.now) (flat_map (symbols_with parent) (settings_of parent))) }
 {
+    if order_of(parent) < matrices {
+        return Ok(None);
+    }
     let settings = [
         Setting::Default,
         Setting::X,
@@ -196,9 +232,10 @@ fn name_under(alloc: Global, group: &Group, parent: Parent) -> Result<Option<Sym
 pub fn name_of(alloc: Global, group: &Group) -> Result<Option<SymbolTree>, NoMemory>
     ensures { IfOk result (λ o. IsNameOf o (In group.now)) }
 {
+    let matrices = count_matrices(group);
     for place in 0..42 {
         if let Some(parent) = Parent::from_number(place + 1) {
-            if let Some(tree) = name_under(alloc, group, parent)? {
+            if let Some(tree) = name_under(alloc, group, parent, matrices)? {
                 return Ok(Some(tree));
             }
         }

@@ -1,10 +1,10 @@
 -- The members of a group that stay in it when an operation carries them.
-use Rattle.std.proofs.Common.{◌≡◌, ℕ, ◌+◌, ◌<◌, ◌≤◌, Bool, true, false, List, [], ◌∷◌, length, refl, ap, sym, ◌∙◌, arith, subst, ◌⊎◌, inl, inr, lit<}
+use Rattle.std.proofs.Common.{◌≡◌, ℕ, ◌+◌, ◌<◌, ◌≤◌, Bool, true, false, List, length, refl, ap, sym, ◌∙◌, arith, subst, ◌⊎◌, inl, inr, lit<}
 use Rattle.std.specs.Prelude.{Contains, ◌↔◌, IsTrue, slice_index_or, set, replicate, Some}
 use Rattle.std.proofs.lemmas.List.{length-set}
 use Rattle.tensor_defs.specs.Operation.{Operation, IsProduct, identity}
 use Rattle.tensor_defs.specs.OperationOrder.{comes_before}
-use Rattle.tensor_defs.specs.Lists.{IsRising, IsListing}
+use Rattle.tensor_defs.specs.Lists.{IsListing}
 use Rattle.tensor_defs.specs.Frames.{IsPlain, IsHexagonal, HaveCommonFrame}
 use Rattle.tensor_defs.specs.States.{InPairGroup}
 use Rattle.tensor_laws.proofs.Products.{product_unique}

@@ -73,11 +73,11 @@ hex_tested g e =
     (hex_told (matrix_place g) false (nat_lt_means (matrix_place g) 64 t.0) t.1)
 
 -- ---- a test of each operator, primed or not
-abbrev passes : (Operation → Bool) → Option Operation → Bool
+abbrev pub passes : (Operation → Bool) → Option Operation → Bool
 passes p (Some g) = p g
 passes p None = true
 
-abbrev each_operator : (Operation → Bool) → Setting → List Operator → Bool
+abbrev pub each_operator : (Operation → Bool) → Setting → List Operator → Bool
 each_operator p s [] = true
 each_operator p s (o ∷ os) =
     also (passes p (operation_of o.kind (turned_to s o.direction) false))
@@ -98,7 +98,7 @@ listed_pass p None g e c = absurd (nothing g c)
 listed_pass p (Some a) g e c =
     elim (Contains-push_cases [] a g c) [ inl h ↦ absurd (nothing g h) | inr q ↦ subst (λ x. p x ≡ true) q e ]
 
-operators_pass : (p : Operation → Bool) (s : Setting) (os : List Operator) (primes : ℕ) (g : Operation) →
+pub operators_pass : (p : Operation → Bool) (s : Setting) (os : List Operator) (primes : ℕ) (g : Operation) →
     each_operator p s os ≡ true → Contains (operations_of s primes os) g → p g ≡ true
 operators_pass p s [] primes g e c = absurd (nothing g c)
 operators_pass p s (o ∷ os) primes g e c =
@@ -178,14 +178,14 @@ framed_all D = refl
 framed_all P = refl
 
 -- ---- time reversal
-abbrev grey_tail : Bool → List Operation
+abbrev pub grey_tail : Bool → List Operation
 grey_tail b = if b then reversal ∷ [] else []
 
-tail_is : (b : Bool) (g : Operation) → Contains (grey_tail b) g → reversal ≡ g
+pub tail_is : (b : Bool) (g : Operation) → Contains (grey_tail b) g → reversal ≡ g
 tail_is true g c = elim (Contains-push_cases [] reversal g c) [ inl h ↦ absurd (nothing g h) | inr q ↦ q ]
 tail_is false g c = absurd (nothing g c)
 
-reversal_plain : IsPlain reversal
+pub reversal_plain : IsPlain reversal
 reversal_plain = plain_told reversal refl
 
 reversal_hexagonal : IsHexagonal reversal

@@ -162,8 +162,10 @@ fn classes_of_six<R: Rank>(alloc: Global, shape: &Shape<R>) -> Option<Classes<R>
 
 /// Whether the elimination with no rows on the classes of 6 has these free components.
 fn has_free<R: Rank>(alloc: Global, shape: &Shape<R>, want: &[u16]) -> Option<bool> {
+    let order = Order::index();
     let classes = classes_of_six(alloc, shape)?;
-    let form = eliminate(alloc, &classes, &[], &Order::index()).ok()?;
+    let none = Vec::new(alloc);
+    let form = eliminate(alloc, &classes, &none, &order).ok()?;
     if form.free_count() != want.len() {
         return Some(false);
     }

@@ -18,8 +18,9 @@ ghost use Rattle.tensor_rank.specs.Shapes.{IsShapeOf};
 ghost use Rattle.reduced_form.specs.Forms.{form_table};
 ghost use Rattle.answer_writers.specs.Rows.{IsLonger};
 
-use crate::room::{NoMemory, append_to};
+use crate::memory::NoMemory;
 use crate::solving::index_table;
+use answer_writers::append_to;
 use exact_frac::append;
 use group_symbol::{SymbolTree, write_group};
 use itoa::Buffer;
@@ -61,7 +62,8 @@ fn write_header(
     write_group(tree, out)?;
     append_to(out, b" ")?;
     write_jahn(jahn, out)?;
-    append_to(out, counts(alloc, free, all).as_slice())
+    append_to(out, counts(alloc, free, all).as_slice())?;
+    Ok(())
 }
 
 /// Appends the header and the component lines of a table.

@@ -2,7 +2,7 @@
 #![tactic(auto)]
 
 mod forms;
-mod room;
+mod memory;
 mod sameness;
 mod solving;
 

@@ -13,8 +13,9 @@ ghost use Rattle.magnetic_groups.specs.Sets.{In};
 ghost use Rattle.answer_writers.specs.Rows.{IsLonger};
 ghost use Rattle.table_answers.specs.Tables.{TellsSame};
 
-use crate::room::{NoMemory, append_to};
+use crate::memory::NoMemory;
 use crate::solving::admit_same;
+use answer_writers::append_to;
 use group_symbol::{SymbolTree, write_group};
 use jahn_grammar::{Jahn, write_jahn};
 use magnetic_groups::Group;
@@ -60,7 +61,8 @@ fn write_line(
     write_group(h, out)?;
     append_to(out, b" ")?;
     write_jahn(jahn, out)?;
-    append_to(out, end_of(same))
+    append_to(out, end_of(same))?;
+    Ok(())
 }
 
 /// Appends the line. After `NoMemory` the list is as before.

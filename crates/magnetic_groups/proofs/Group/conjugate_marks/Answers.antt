@@ -1,4 +1,4 @@
-use Rattle.std.proofs.Common.{◌+◌, ◌≡◌, sym, subst, arith}
+use Rattle.std.proofs.Common.{◌+◌, sym, subst, arith}
 use Rattle.magnetic_groups.proofs.Meeting.{IsMeeting, meeting_none, meeting_skip, meeting_more, met_group, met_listing, inverse_common, half_common, pair_told}
 use Rattle.magnetic_groups.proofs.Group.conjugate_marks.Goals as goal
 use Rattle.magnetic_groups.proofs.Group.conjugate_marks.Goals.{then-has, else-has}

@@ -1,5 +1,4 @@
-use Rattle.std.proofs.Common.{◌≡◌, ◌∙◌, length, rules, subst, sym}
-use Rattle.magnetic_groups.specs.Sets.{IsGroup}
+use Rattle.std.proofs.Common.{◌≡◌, ◌∙◌, length, rules}
 use Rattle.magnetic_groups.proofs.Taking.{kept_taken}
 use Rattle.magnetic_groups.proofs.closing.of_marks.Goals as goal
 
