@@ -1,6 +1,6 @@
 -- The answers to requests of each kind, by what their parts give.
 --   elements_grown, form_grown, same_grown, states_grown, pairs_grown    a list grew by the answer of the line
-use Rattle.std.proofs.Common.{◌≡◌, ◌⊎◌, inl, inr, ℕ, ◌+◌, ◌≤◌, ◌<◌, Bool, true, false, List, [], ◌∷◌, ◌++◌, length, refl}
+use Rattle.std.proofs.Common.{◌≡◌, ◌⊎◌, inl, inr, ℕ, ◌≤◌, ◌<◌, true, false, List, ◌++◌, length, refl}
 use Rattle.tensor_defs.specs.Elimination.{Grows}
 use Rattle.tensor_defs.specs.Group.{InGroup, IsAccepted}
 use Rattle.tensor_defs.specs.Jahn.{AdmitSame, JahnSymbol, rank}
@@ -13,7 +13,7 @@ use Rattle.tensor_defs.specs.States.{AreStates}
 use Rattle.tensor_defs.specs.Table.{Fits, Table}
 use Rattle.text_defs.specs.AnswerTexts.{elements_text, form_text, pairs_text, same_text, states_text}
 use Rattle.text_defs.specs.Refusals.{IsOutside}
-use Rattle.text_defs.specs.Requests.{JahnAt, SpellsRequest}
+use Rattle.text_defs.specs.Requests.{SpellsRequest}
 use Rattle.text_defs.specs.Requests.Request.{Form, Group, States, Pairs, Same}
 use Rattle.request_lines.specs.declared.Named.{Named}
 use Rattle.request_lines.specs.declared.Span.{Span}

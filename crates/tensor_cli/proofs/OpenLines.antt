@@ -2,14 +2,13 @@
 --   IsOpen          none of the seven refusals applies to the request
 --   open_grown      the answer to such a request is the answer of the line
 --   primes_first, primes_second, over_rank, unbuilt_stop, outside_stop, large_stop    the first refusal that applies
-use Rattle.std.proofs.Common.{◌≡◌, inl, inr, ℕ, ◌+◌, ◌<◌, ◌≤◌, List, [], ◌∷◌, ◌++◌, length, refl, sym, subst, arith}
-use Rattle.std.specs.Prelude.{Option, Some, None}
+use Rattle.std.proofs.Common.{◌≡◌, inl, inr, ℕ, ◌<◌, ◌≤◌, List, [], ◌∷◌, ◌++◌, length, refl, sym, subst, arith}
+use Rattle.std.specs.Prelude.{Some}
 use Rattle.tensor_defs.specs.Group.{IsAccepted}
 use Rattle.tensor_defs.specs.Jahn.{rank}
-use Rattle.tensor_defs.specs.Lists.{Each}
 use Rattle.text_defs.specs.Answers.{AnswersRequest, IsAnswer}
 use Rattle.text_defs.specs.Refusals.{AreAccepted, FirstRefused, HasOtherShape, HasShape, InRank, IsNotSub, OverRank}
-use Rattle.text_defs.specs.Refusals.{RefusalWord, Refuses, RefusesRequest, RequestGrows, groups_of, jahn_of, IsRefused}
+use Rattle.text_defs.specs.Refusals.{RefusalWord, Refuses, RefusesRequest, RequestGrows, groups_of, jahn_of}
 use Rattle.text_defs.specs.Refusals.RefusalWord.{Long, Syntax, Primes, Rank, Shape, NotSub, TooLarge}
 use Rattle.text_defs.specs.Requests.{GroupAt, JahnAt, Request, SpellsRequest}
 use Rattle.text_defs.specs.Requests.Request.{Form, Group, Voigt, States, Pairs, Differ, Same}

@@ -4,7 +4,7 @@
 --   asked_at        the line spells the request with the tensor that was read
 --   first_stop, second_stop, rank_stop    a group that isn't accepted, a rank above 6
 --   table_stop, state_stop    a table that grows, a group that isn't below the other
-use Rattle.std.proofs.Common.{◌≡◌, ℕ, ◌+◌, ◌-◌, ◌≤◌, take, drop, ◌<◌, ◌↔◌, Bool, IsTrue, true, false, List, [], ◌∷◌, length, refl, sym, subst, ap}
+use Rattle.std.proofs.Common.{◌≡◌, ℕ, ◌+◌, ◌-◌, ◌≤◌, take, drop, ◌<◌, List, ◌∷◌, length, refl, sym, subst}
 use Rattle.std.specs.Prelude.{Some}
 use Rattle.tensor_defs.specs.Group.{IsAccepted}
 use Rattle.tensor_defs.specs.Jahn.{JahnSymbol, rank}
@@ -12,7 +12,7 @@ use Rattle.text_defs.specs.JahnTexts.{SpellsJahn}
 use Rattle.text_laws.proofs.JahnUnique.{one_jahn}
 use Rattle.jahn_grammar.specs.Symbols.{symbol_of}
 use Rattle.jahn_grammar.specs.declared.Jahn.{Jahn}
-use Rattle.text_defs.specs.Refusals.{AreAccepted, HasShape, InRank, IsNotSub, IsOutside, RefusalWord, RequestGrows, groups_of, jahn_of}
+use Rattle.text_defs.specs.Refusals.{AreAccepted, HasShape, InRank, IsNotSub, RefusalWord, RequestGrows, groups_of, jahn_of}
 use Rattle.text_defs.specs.Requests.{GroupAt, JahnAt, Request, SpellsRequest}
 use Rattle.reduced_form.specs.declared.memory.SolveFault.{SolveFault}
 use Rattle.reduced_form.specs.declared.memory.SolveFault.TheVariants as table_fault

@@ -1,7 +1,6 @@
 use Rattle.std.proofs.Common.{◌∙◌, List, ℕ, ap, ◌++◌}
 use Rattle.tensor_cli.specs.Stage.{stage_refusal_text}
 use Rattle.tensor_cli.specs.Words.{word_of}
-use Rattle.tensor_cli.specs.declared.refusals.Refusal.{Refusal}
 use Rattle.tensor_cli.proofs.LineAnswers.{grown_ends, refusal_ends}
 use Rattle.tensor_cli.proofs.SymbolStops.{stop_of}
 use Rattle.tensor_cli.proofs.answers.answer_request.Goals as goal
