@@ -1,21 +1,20 @@
 -- The exchanges of index lists are those of component numbers.
-use Rattle.std.proofs.Common.{◌≡◌, ℕ, zero, suc, ◌+◌, ◌-◌, ◌*◌, ◌^◌, ◌<◌, ◌≤◌, Bool, true, false, cond, List, [], ◌∷◌, ◌++◌, length, get_or, take, drop, refl, ap, sym, ◌∙◌, arith, subst, inl, inr, ◌⊎◌}
+use Rattle.std.proofs.Common.{◌≡◌, ℕ, zero, suc, ◌+◌, ◌-◌, ◌*◌, ◌^◌, ◌<◌, ◌≤◌, Bool, true, false, cond, List, [], ◌∷◌, ◌++◌, length, take, drop, refl, ap, sym, ◌∙◌, arith, subst, inl, inr, ◌⊎◌}
 use Rattle.std.specs.Prelude.{Contains}
 use Rattle.std.proofs.lemmas.Bool.{cases_lt}
 use Rattle.std.proofs.lemmas.Bool.Decides.{nat_tests}
 use Rattle.tensor_defs.specs.Number.{Number, neg}
 use Rattle.number_laws.proofs.NumberLaws.{num_neg-neg}
-use Rattle.tensor_defs.specs.Operation.{Axis, x1}
+use Rattle.tensor_defs.specs.Operation.{x1}
 use Rattle.tensor_defs.specs.Tensor.{Index, Tensor, axis_place, component_number, index_of}
 use Rattle.tensor_defs.specs.Lists.{Each}
 use Rattle.tensor_defs.specs.Jahn.{Bracket, IsExchange, Respects}
 use Rattle.tensor_laws.proofs.ComponentNumbers.{length-index_of, number-index_of}
-use Rattle.tensor_defs.specs.declared.Sign.{Sign}
 use Rattle.tensor_defs.specs.declared.Sign.TheVariants.{Plus, Minus}
 use Rattle.sign_moves.specs.Signs.{signed}
 use Rattle.sign_moves.specs.Moves.{IsKept}
 use Rattle.tensor_rank.specs.declared.exchanges.Exchange.{Exchange}
-use Rattle.tensor_rank.specs.Digits.{digit_of, number_of}
+use Rattle.tensor_rank.specs.Digits.{digit_of}
 use Rattle.tensor_rank.specs.Exchanges.{partner, exchanged, sign_of_exchange, exchange_moves}
 use Rattle.tensor_rank.specs.Within.{IsWithin, AllWithin, exchange_at}
 use Rattle.tensor_rank.proofs.ExchangeLaws.{partner_below}

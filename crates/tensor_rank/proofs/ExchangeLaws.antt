@@ -13,7 +13,7 @@ use Rattle.tensor_rank.specs.Exchanges.{partner, exchanged, exchange_moves, sign
 pub partner_below : (r : ℕ) (e : Exchange) → IsWithin r e → (p : ℕ) → p < r → partner e p < r
 partner_below r e h p below = grind (arith, nat_tests, h.apart, h.inside)
 
-partner-partner : (r : ℕ) (e : Exchange) → IsWithin r e → (p : ℕ) → partner e (partner e p) ≡ p
+pub partner-partner : (r : ℕ) (e : Exchange) → IsWithin r e → (p : ℕ) → partner e (partner e p) ≡ p
 partner-partner r e h p = grind (arith, nat_tests, h.apart, h.inside)
 
 pub digit_below : (r c p : ℕ) → digit_of r c p < 3
@@ -41,7 +41,7 @@ exchanges_reversible n r es size within = record {
       (times (sign_of_exchange (exchange_at es k)) Plus, move k is home refl);
 }
 
-power_small : (k : ℕ) → k ≤ 6 → 3 ^ k ≤ 729
+pub power_small : (k : ℕ) → k ≤ 6 → 3 ^ k ≤ 729
 power_small zero h = lit≤ tt
 power_small (suc zero) h = lit≤ tt
 power_small (suc (suc zero)) h = lit≤ tt

@@ -6,7 +6,7 @@ use Rattle.sign_moves.proofs.EngineLaws.{bool_cases}
 use Rattle.sign_moves.specs.Classes.{first_at}
 use Rattle.sign_moves.specs.Firsts.{IsStrict}
 use Rattle.sign_moves.specs.declared.classes.Entry.{Entry}
-use Rattle.tensor_rank.specs.Orders.{Ordering, ByIndex, before_at, is_by_index}
+use Rattle.tensor_rank.specs.Orders.{Ordering, before_at, is_by_index}
 use Rattle.tensor_rank.specs.Shapes.{IsFirstBelow}
 use Rattle.tensor_rank.proofs.OrderLaws.{index_order_at, by_index}
 

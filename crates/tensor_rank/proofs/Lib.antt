@@ -1,5 +1,6 @@
 pub mod OrderLaws
 pub mod ExchangeLaws
+pub mod ExchangeRowLaws
 pub mod ExchangeIndex
 pub mod SymmetryLaws
 pub mod ShapeLaws

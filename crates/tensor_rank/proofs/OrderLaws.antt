@@ -1,15 +1,15 @@
 -- Orders by the index digits and by blocks.
-use Rattle.std.proofs.Common.{◌≡◌, ◌≢◌, ℕ, zero, suc, ◌+◌, ◌-◌, ◌*◌, ◌^◌, ◌<◌, ◌≤◌, Bool, true, false, cond, List, [], ◌∷◌, ◌++◌, length, get_or, take, drop, drop-cons, add-one, zero-add, map, refl, ap, sym, ◌∙◌, arith, subst, inl, inr}
-use Rattle.std.specs.Prelude.{nat_eq, nat_lt, IsTrue}
+use Rattle.std.proofs.Common.{◌≡◌, ◌≢◌, ℕ, zero, suc, ◌+◌, ◌-◌, ◌*◌, ◌^◌, ◌<◌, ◌≤◌, true, false, List, [], ◌∷◌, ◌++◌, length, get_or, drop, drop-cons, add-one, zero-add, map, refl, ap, sym, ◌∙◌, arith, subst, inl, inr}
+use Rattle.std.specs.Prelude.{nat_lt}
 use Rattle.std.proofs.lemmas.Bool.{cases_lt, lt-ltb, le-ltb}
 use Rattle.std.proofs.lemmas.Bool.Decides.{nat_tests}
 use Rattle.std.proofs.lemmas.List.{length-drop}
-use Rattle.tensor_defs.specs.Lists.{Each, lexicographic}
+use Rattle.tensor_defs.specs.Lists.{lexicographic}
 use Rattle.tensor_defs.specs.Operation.{x1, x2, x3, Axis}
-use Rattle.tensor_defs.specs.Orders.{index_before, block_before, block_numbers, pair_number, IsOrder}
-use Rattle.tensor_defs.specs.Tensor.{Index, digit, axis_place, component_number, index_of}
+use Rattle.tensor_defs.specs.Orders.{index_before, block_numbers, pair_number}
+use Rattle.tensor_defs.specs.Tensor.{Index, digit, component_number, index_of}
 use Rattle.tensor_laws.proofs.ComponentNumbers.{number_below, length-index_of, number-index_of}
-use Rattle.tensor_rank.specs.Orders.{Ordering, ByIndex, ByBlocks, before_of, before_at, IsBlock, AreBlocks, total, front_number, pair_of, rest_before, is_by_index}
+use Rattle.tensor_rank.specs.Orders.{Ordering, ByIndex, ByBlocks, IsBlock, AreBlocks, total, front_number, pair_of, rest_before, is_by_index}
 use Rattle.tensor_rank.specs.IndexLaws.{nth}
 
 -- ---- index order is the order of component numbers

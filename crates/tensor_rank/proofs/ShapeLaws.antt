@@ -1,8 +1,7 @@
 -- What a shape's table of classes tells of the component lists with the index symmetry of a symbol.
-use Rattle.std.proofs.Common.{◌≡◌, ℕ, zero, suc, ◌^◌, ◌<◌, ◌≤◌, Bool, true, false, cond, List, [], ◌∷◌, ◌++◌, length, get_or, refl, ap, sym, ◌∙◌, arith, subst, IsNone}
-use Rattle.std.specs.Prelude.{Contains, IsTrue, Option, Some, None, ◌↔◌}
-use Rattle.tensor_defs.specs.Jahn.{JahnSymbol, Bracket, rank, body_brackets, IsExchange, HasSymmetry}
-use Rattle.tensor_defs.specs.Number.{Number, num_zero}
+use Rattle.std.proofs.Common.{◌≡◌, ℕ, zero, suc, ◌^◌, ◌<◌, Bool, true, false, List, [], ◌∷◌, ◌++◌, length, get_or, refl, ap, sym, ◌∙◌, arith, subst}
+use Rattle.std.specs.Prelude.{Contains, Some, None, ◌↔◌}
+use Rattle.tensor_defs.specs.Jahn.{JahnSymbol, Bracket, rank, body_brackets, HasSymmetry}
 use Rattle.tensor_defs.specs.Tensor.{Index, Tensor, component_number, index_of}
 use Rattle.tensor_defs.specs.declared.Sign.{Sign}
 use Rattle.tensor_defs.specs.declared.Sign.TheVariants.{Plus}
@@ -10,7 +9,7 @@ use Rattle.tensor_laws.proofs.ComponentNumbers.{length-index_of, number-index_of
 use Rattle.sign_moves.specs.declared.classes.Entry.{Entry}
 use Rattle.sign_moves.specs.Classes.{IsClassTable, IsFirstOfClass, entry_at, first_at, sign_at, vanishes_at}
 use Rattle.sign_moves.specs.Moves.{Moves, IsReversible, IsKept, Reaches, stay, move, IsForced, IsFirst}
-use Rattle.sign_moves.specs.Signs.{signed, times}
+use Rattle.sign_moves.specs.Signs.{times}
 use Rattle.sign_moves.proofs.FirstLaws.{tables_tell}
 use Rattle.sign_moves.proofs.ClassLaws.{reached_first}
 use Rattle.sign_moves.proofs.JoinedLaws.{kept_again}
@@ -19,12 +18,12 @@ use Rattle.tensor_defs.specs.Lists.{Each}
 use Rattle.tensor_rank.proofs.ExchangeLaws.{exchanged_below}
 use Rattle.tensor_rank.specs.declared.exchanges.Exchange.{Exchange}
 use Rattle.tensor_rank.specs.Carried.{Carried, rests, steps, Exchanges, IsZeroAt, IsFirstCarried, TellsClass}
-use Rattle.tensor_rank.specs.Exchanges.{exchange_moves, exchanged, sign_of_exchange}
-use Rattle.tensor_rank.specs.IndexLaws.{index_number_at, component_below_at}
+use Rattle.tensor_rank.specs.Exchanges.{exchange_moves, exchanged}
+use Rattle.tensor_rank.specs.IndexLaws.{index_number_at}
 use Rattle.tensor_rank.specs.Orders.{Ordering, before_of, before_at}
 use Rattle.tensor_rank.specs.Shapes.{IsFirstBelow}
 use Rattle.tensor_rank.specs.Symmetry.{exchange_of, each_two, exchanges_of}
-use Rattle.tensor_rank.specs.Within.{AllWithin, IsWithin, exchange_at}
+use Rattle.tensor_rank.specs.Within.{AllWithin, IsWithin}
 use Rattle.tensor_rank.proofs.ExchangeIndex.{numbered, symmetric_kept, kept_symmetric, length_exchanged, its_exchange, exchange_index, can_exchange, exchange_lands, all_from, each_exchange, IsListed, listed_left, listed_right, two_listed}
 
 -- ---- steps along exchanges of a symbol are moves of component numbers

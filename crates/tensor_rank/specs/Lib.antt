@@ -12,3 +12,4 @@ pub mod Carried
 pub mod ShapeValue
 pub mod Shapes
 pub mod AnyShapes
+pub mod ExchangeRows

@@ -3,9 +3,10 @@ ghost use Rattle.sign_moves.specs.Moves.{IsReversible};
 ghost use Rattle.tensor_rank.specs.Exchanges.{exchange_moves};
 ghost use Rattle.tensor_rank.specs.Within.{AllWithin};
 
-use crate::components::Comp;
+use crate::components::{Comp, POWERS};
 use crate::ranks::Rank;
-use sign_moves::{Moves, Sign};
+use sign_moves::{Moves, NoMemory, Sign, Step, digit_row};
+use std::alloc::Global;
 use std::marker::PhantomData;
 
 /// Two blocks of indices of one width, where they begin, and whether exchanging them negates each component.
@@ -19,7 +20,9 @@ pub struct Exchange {
 
 impl Exchange {
     ghost use Rattle.std.specs.Prelude.{◌≡◌, ◌<◌, ◌≤◌, ◌^◌};
+    ghost use Rattle.std.specs.Prelude.{IfOk};
     ghost use Rattle.tensor_rank.specs.Exchanges.{partner, exchanged, sign_of_exchange};
+    ghost use Rattle.tensor_rank.specs.ExchangeRows.{IsExchangeRow, exchange_part};
     ghost use Rattle.tensor_rank.specs.Within.{IsWithin};
 
     /// The place that a place changes with.
@@ -51,6 +54,39 @@ impl Exchange {
             number = 3 * number + c.axis(self.partner(place));
         }
         Comp::at(number)
+    }
+
+    /// What each digit at a place contributes to where a component of rank R is carried.
+    fn part<R: Rank>(&self, place: usize) -> [Step; 3]
+        requires within { IsWithin R.R self.now }
+        requires place { place < R.R }
+        ensures { result ≡ exchange_part R.R self.now place }
+    {
+        let weight = POWERS[R::R - 1 - self.partner(place)];
+        let sign = Sign::Plus;
+        [
+            Step { to: 0, sign },
+            Step { to: weight, sign },
+            Step {
+                to: 2 * weight,
+                sign,
+            },
+        ]
+    }
+
+    /// Where the exchange carries each component of rank R.
+    fn row<R: Rank>(&self, alloc: Global) -> Result<Vec<Step>, NoMemory>
+        requires within { IsWithin R.R self.now }
+        ensures { IfOk result (λ row. IsExchangeRow R.R self.now row.items) }
+    {
+        let mut parts = [[Step {
+            to: 0,
+            sign: Sign::Plus,
+        }; 3]; 6];
+        for place in 0..R::R {
+            parts[place] = self.part::<R>(place);
+        }
+        digit_row(alloc, &parts[..R::R], self.sign())
     }
 
     /// The sign of the exchange.
@@ -106,5 +142,9 @@ impl<'a, R: Rank> Moves for ExchangeMoves<'a, R> {
         let exchange = self.exchanges[place];
         let carried = exchange.carry(Comp::<R>::at(c));
         (carried.number() as usize, exchange.sign())
+    }
+
+    fn row(&self, alloc: Global, place: usize) -> Result<Vec<Step>, NoMemory> {
+        self.exchanges[place].row::<R>(alloc)
     }
 }

@@ -13,7 +13,7 @@ use crate::flags::Flags;
 use crate::memory::NoMemory;
 use crate::orders::Order;
 use crate::ranks::Rank;
-use sign_moves::{Entry, Sign, class_table, times};
+use sign_moves::{Entry, Sign, Tabled, class_table, times};
 use std::alloc::Global;
 use std::marker::{Model, PhantomData};
 
@@ -85,7 +85,8 @@ impl<R: Rank> Shape<R> {
         requires { AllWithin R.R exchanges.items }
         ensures { IfOk result (λ s. (s.marks ≡ marks_of flags) × (s.exchanges ≡ exchanges.items)) }
     {
-        let classes = class_table(alloc, &ExchangeMoves::<R>::new(&exchanges))?;
+        let moves = ExchangeMoves::<R>::new(&exchanges);
+        let classes = class_table(alloc, &Tabled::new(alloc, &moves)?)?;
         Ok(Shape {
             flags,
             exchanges,

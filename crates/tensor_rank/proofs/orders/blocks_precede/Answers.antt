@@ -1,4 +1,4 @@
-use Rattle.std.proofs.Common.{◌≡◌, ◌≢◌, ℕ, ◌+◌, ◌-◌, ◌≤◌, nat_lt, drop, get_or, length, arith, ap, sym, ◌∙◌, subst}
+use Rattle.std.proofs.Common.{◌≡◌, ◌≢◌, ℕ, ◌+◌, ◌-◌, ◌≤◌, nat_lt, drop, get_or, arith, ap, sym, ◌∙◌, subst}
 use Rattle.std.proofs.Math.ListN.{drop_of_length-le}
 use Rattle.tensor_defs.specs.Tensor.{index_of}
 use Rattle.tensor_laws.proofs.ComponentNumbers.{length-index_of}

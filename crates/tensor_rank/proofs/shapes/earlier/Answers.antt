@@ -1,4 +1,4 @@
-use Rattle.std.proofs.Common.{◌≡◌, ap, sym, ◌∙◌}
+use Rattle.std.proofs.Common.{ap, sym, ◌∙◌}
 use Rattle.sign_moves.specs.Classes.{first_at}
 use Rattle.tensor_defs.specs.Tensor.{index_of}
 use Rattle.tensor_rank.specs.Orders.{before_of}

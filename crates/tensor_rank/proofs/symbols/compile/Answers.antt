@@ -1,4 +1,4 @@
-use Rattle.std.proofs.Common.{◌≡◌, ◌≤◌, ℕ, arith, sym, ◌∙◌, subst, ap}
+use Rattle.std.proofs.Common.{◌≤◌, arith, sym, ◌∙◌}
 use Rattle.tensor_defs.specs.Jahn.{factors_rank}
 use Rattle.jahn_grammar.specs.Trees.{factors_of}
 use Rattle.tensor_rank.proofs.SymmetryLaws.{whole_within}

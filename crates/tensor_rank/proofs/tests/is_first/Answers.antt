@@ -1,6 +1,3 @@
-use Rattle.std.proofs.Common.{sym, subst}
-use Rattle.sign_moves.specs.Moves.{IsReversible}
-use Rattle.tensor_rank.specs.Exchanges.{exchange_moves}
 use Rattle.tensor_rank.proofs.ExchangeLaws.{exchanges_reversible}
 use Rattle.tensor_rank.proofs.tests.is_first.Goals as goal
 

@@ -1,4 +1,4 @@
-use Rattle.std.proofs.Common.{arith, ◌≡◌, ◌-◌, ◌<◌, ◌≤◌, ◌^◌, ap, ◌∙◌, refl}
+use Rattle.std.proofs.Common.{arith, ◌≡◌, ◌<◌, ◌≤◌, ◌^◌, ap, ◌∙◌, refl}
 use Rattle.tensor_rank.specs.Digits.{digit_of, number_of}
 use Rattle.tensor_rank.specs.Exchanges.{partner, exchanged}
 use Rattle.tensor_rank.proofs.ExchangeLaws.{front_small, front_more, exchanged_below}

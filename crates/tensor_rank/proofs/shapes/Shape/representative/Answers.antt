@@ -1,6 +1,6 @@
-use Rattle.std.proofs.Common.{◌≡◌, ℕ, ◌<◌, length, true, false, List, ap, sym, ◌∙◌, subst, refl}
+use Rattle.std.proofs.Common.{◌≡◌, ℕ, ◌<◌, length, List, ap, sym, ◌∙◌, subst}
 use Rattle.sign_moves.specs.declared.classes.Entry.{Entry}
-use Rattle.sign_moves.specs.Classes.{entry_at, first_at, vanishes_at, sign_at, IsClassTable}
+use Rattle.sign_moves.specs.Classes.{entry_at, first_at, sign_at, IsClassTable}
 use Rattle.sign_moves.specs.Moves.{IsReversible}
 use Rattle.sign_moves.specs.Signs.{times}
 use Rattle.tensor_rank.specs.Exchanges.{exchange_moves}
