@@ -1,22 +1,21 @@
 -- Tables on the hexagonal axes: the component lists that representatives and the rows of words leave are the invariant
 -- tensors.
 use Rattle.std.proofs.Common.{◌≡◌, ℕ, zero, suc, ◌+◌, ◌^◌, ◌<◌, ◌≤◌, ◌↔◌, Bool, true, false, List, [], ◌∷◌, cond, length, get_or, replicate, refl, ap, sym, ◌∙◌, subst, arith, inl, inr, add-one}
-use Rattle.std.specs.Prelude.{Contains, None, Option, Some, filter, nat_lt, slice_set, unsigned_abs}
+use Rattle.std.specs.Prelude.{Contains, filter, nat_lt, slice_set, unsigned_abs}
 use Rattle.std.proofs.lemmas.Bool.{cases_eq, cases_lt}
-use Rattle.std.proofs.lemmas.Bool.Decides.{nat_tests}
 use Rattle.std.proofs.lemmas.List.{length-replicate}
 use Rattle.tensor_defs.specs.declared.Sign.{Sign}
 use Rattle.tensor_defs.specs.declared.Sign.TheVariants.{Plus, Minus}
-use Rattle.tensor_defs.specs.Elimination.{AreRepresentatives, AreUnknowns, Grows, GrowsFrom, Line, by_place, carried, rows_of, share}
+use Rattle.tensor_defs.specs.Elimination.{AreRepresentatives, AreUnknowns, Grows, GrowsFrom, by_place, carried, rows_of, share}
 use Rattle.tensor_defs.specs.Frames.{AllOf, IsFramed, IsPlain}
 use Rattle.tensor_defs.specs.Jahn.{IsInvariant, JahnSymbol, rank}
 use Rattle.tensor_defs.specs.Lists.{Each}
 use Rattle.tensor_defs.specs.Number.{Number, limit, mul, num_one, num_zero}
-use Rattle.tensor_defs.specs.Operation.{IsProduct, Operation}
+use Rattle.tensor_defs.specs.Operation.{Operation}
 use Rattle.tensor_defs.specs.Table.{Fits, Table}
 use Rattle.tensor_defs.specs.Tensor.{Index, Tensor, component_number, index_of, sum_indices}
 use Rattle.tensor_defs.specs.Words.{Word, even_row, is_used, odd_row, words}
-use Rattle.number_laws.proofs.NumberLaws.{num_mul-one, num_mul_assoc, num_one-mul}
+use Rattle.number_laws.proofs.NumberLaws.{num_mul-one, num_one-mul}
 use Rattle.tensor_laws.proofs.ComponentNumbers.{length-index_of, number-index_of}
 use Rattle.tensor_laws.proofs.Products.{product_unique}
 use Rattle.tensor_laws.proofs.Unique.{none_some, some_same}
@@ -32,7 +31,6 @@ use Rattle.tensor_rank.specs.Shapes.{IsShapeOf}
 use Rattle.tensor_rank.specs.StrictOrders.{orders_are_orders}
 use Rattle.constraint_rows.specs.Classes.{class_at}
 use Rattle.constraint_rows.specs.WordRows.{AreParts, AreSound, AreWordRows, IsCarriedRow, IsGiven, IsOwn, carried_to, carrier_of}
-use Rattle.constraint_rows.specs.WordRows as word
 use Rattle.constraint_rows.specs.declared.rows.Part.{Part}
 use Rattle.sparse_rows.specs.Solutions.{Solve}
 use Rattle.sparse_rows.proofs.Lines.{each_map}
@@ -40,9 +38,9 @@ use Rattle.axis_laws.specs.Laws.{IsClosed, OneElimination, RowsDecideInvariance,
 use Rattle.reduced_form.specs.Eliminated.{IsSystem}
 use Rattle.reduced_form.specs.Forms.{ArePlaces, IsFreeUpTo, free_at}
 use Rattle.reduced_form.specs.Solving.{FitsSet, IsSolution, line_at, lines_at}
-use Rattle.reduced_form.proofs.FreeLaws.{IsTotal, free_apart, free_inserted, free_passes, free_start, orders_total, places_next}
+use Rattle.reduced_form.proofs.FreeLaws.{free_apart, free_inserted, free_passes, free_start, orders_total, places_next}
 use Rattle.reduced_form.proofs.Numbering.{option_cases}
-use Rattle.reduced_form.proofs.Systems.{are_unknowns, in_n, index_at, index_list, long, small, solve_sums, sums_solve}
+use Rattle.reduced_form.proofs.Systems.{are_unknowns, index_at, index_list, less_not, long, solve_sums, sums_solve}
 
 -- ---- sound classes have unknowns
 data Place (before : ℕ → ℕ → Bool) (free : List ℕ) (c : ℕ) : Type 0 where
@@ -97,23 +95,17 @@ module _ (n r : ℕ) (size : n ≡ 3 ^ r) (o : Ordering) (es : List Entry) where
       (f.0, p.0, record { size = size; sound = sound; unknowns = f.1; placed = p.1 })
 
 -- ---- the rows of words
-less_is : (k n : ℕ) → k < n → nat_lt k n ≡ true
-less_is k n h = grind (arith, nat_tests)
-
-less_not : (k n : ℕ) → n ≤ k → nat_lt k n ≡ false
-less_not k n h = grind (arith, nat_tests)
-
-each_get : {X : Type 0} (P : X → Type 0) (d : X) (xs : List X) (k : ℕ) → k < length xs → Each P xs → P (get_or xs k d)
-each_get P d [] k h p = absurd (omega (arith, h))
-each_get P d (x ∷ xs) zero h p = p.0
-each_get P d (x ∷ xs) (suc k) h p = each_get P d xs k (omega (arith, h)) p.1
+each_at : {X : Type 0} (P : X → Type 0) (d : X) (xs : List X) (k : ℕ) → k < length xs → Each P xs → P (get_or xs k d)
+each_at P d [] k h p = absurd (omega (arith, h))
+each_at P d (x ∷ xs) zero h p = p.0
+each_at P d (x ∷ xs) (suc k) h p = each_at P d xs k (omega (arith, h)) p.1
 
 by_place_same : (r : ℕ) (us : List Index) (f g : Index → Number) → Each (λ c. length c ≡ r) us → ((c : Index) → length c ≡ r → f c ≡ g c) → by_place us f ≡ by_place us g
 by_place_same r us f g of_rank e = λ i k. at k i
   where
     at : (k : ℕ) → by_place us f k ≡ by_place us g k
     at k = elim (cases_lt k (length us)) as (λ _. by_place us f k ≡ by_place us g k) [
-      | inl h ↦ ap (λ x. cond (nat_lt k (length us)) x num_zero) (e (get_or us k []) (each_get (λ c. length c ≡ r) [] us k h of_rank))
+      | inl h ↦ ap (λ x. cond (nat_lt k (length us)) x num_zero) (e (get_or us k []) (each_at (λ c. length c ≡ r) [] us k h of_rank))
       | inr h ↦ ap (λ b. cond b (f (get_or us k [])) num_zero) (less_not k (length us) h) ∙ ap (λ b. cond b (g (get_or us k [])) num_zero) (sym (less_not k (length us) h))
     ]
 

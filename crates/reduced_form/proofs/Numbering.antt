@@ -5,13 +5,10 @@ use Rattle.std.proofs.lemmas.Bool.{cases_lt, cases_eq}
 use Rattle.std.proofs.lemmas.List.{length-set, get_or-set_other}
 use Rattle.std.proofs.lemmas.Grind.{get_or-set_at}
 use Rattle.tensor_defs.specs.Elimination.{Kept}
-use Rattle.tensor_defs.specs.Lists.{Each}
-use Rattle.sparse_rows.specs.KeptRows.{kept_of, kepts}
-use Rattle.sparse_rows.specs.declared.entry.Entry.{Entry}
+use Rattle.sparse_rows.specs.KeptRows.{kepts}
 use Rattle.sparse_rows.specs.declared.entry.KeptRow.{KeptRow}
 use Rattle.sparse_rows.specs.declared.entry.PivotSum.{PivotSum}
-use Rattle.reduced_form.specs.Forms.{free_at}
-use Rattle.reduced_form.specs.Eliminated.{ArePivots, AreNumbers, entries_at, free_places, number_at, pivot_at, teller, with_place}
+use Rattle.reduced_form.specs.Eliminated.{ArePivots, entries_at, free_places, number_at, pivot_at, teller, with_place}
 
 pub some_not_none : {X : Type 0} (x : X) → Some x ≡ None → ⊥
 some_not_none x e = cc
@@ -30,11 +27,6 @@ front_at d [] ys i h = absurd (omega arith)
 front_at d (x ∷ xs) ys zero h = refl
 front_at d (x ∷ xs) ys (suc i) h = front_at d xs ys i (omega arith)
 
-pub each_of : {X : Type 0} (P : X → Type 0) (xs : List X) (i : ℕ) (x : X) → i < length xs → x ≡ get_or xs i x → Each P xs → P x
-each_of P [] i x h e p = absurd (omega (arith, h))
-each_of P (y ∷ xs) zero x h e p = subst P (sym e) p.0
-each_of P (y ∷ xs) (suc i) x h e p = each_of P xs i x (omega (arith, h)) e p.1
-
 pub map_more : {X Y : Type 0} (f : X → Y) (xs : List X) (i : ℕ) (x : X) → i < length xs → x ≡ get_or xs i x → map f (take (i + 1) xs) ≡ map f (take i xs) ++ f x ∷ []
 map_more f xs i x h e = ap (λ n. map f (take n xs)) (add-one i) ∙ go f xs i x h e
   where
@@ -43,26 +35,7 @@ map_more f xs i x h e = ap (λ n. map f (take n xs)) (add-one i) ∙ go f xs i x
     go f (y ∷ xs) zero x h e = ap (λ z. f z ∷ []) (sym e)
     go f (y ∷ xs) (suc i) x h e = ap (λ l. f y ∷ l) (go f xs i x (omega (arith, h)) e)
 
-pub take_whole : {X : Type 0} (xs : List X) (i : ℕ) → length xs ≤ i → take i xs ≡ xs
-take_whole [] zero h = refl
-take_whole [] (suc i) h = refl
-take_whole (x ∷ xs) zero h = absurd (omega (arith, h))
-take_whole (x ∷ xs) (suc i) h = ap (λ l. x ∷ l) (take_whole xs i (omega (arith, h)))
-
--- ---- no rows yet
-pub untold_more : (xs : List (Option ℕ)) → ((k : ℕ) → teller xs k ≡ None) → (k : ℕ) → teller (xs ++ None ∷ []) k ≡ None
-untold_more [] h zero = refl
-untold_more [] h (suc k) = refl
-untold_more (x ∷ xs) h zero = h zero
-untold_more (x ∷ xs) h (suc k) = untold_more xs (λ i. h (suc i)) k
-
-pub pivots_start : (n : ℕ) (κs : List Kept) (at : List (Option ℕ)) → length at ≡ n → ((k : ℕ) → teller at k ≡ None) → ArePivots n κs at 0
-pivots_start n κs at len none = record {
-  len = len;
-  pivot = λ k i e. absurd (some_not_none i (sym e ∙ none k));
-  all = λ i h. absurd (omega arith);
-}
-
+-- ---- pivots
 pub pivots_next : (n : ℕ) (κs : List Kept) (at : List (Option ℕ)) (end p : ℕ) → ArePivots n κs at end → p ≡ pivot_at κs end → p < n → ArePivots n κs (slice_set at p (Some end)) (end + 1)
 pivots_next n κs at end p h own inside = record {
   len = length-set at p (Some end) ∙ h.len;
@@ -213,16 +186,3 @@ module _ (at : List (Option ℕ)) where
               }
         ]
   ]
-
-pub numbers_more : (at : List (Option ℕ)) (k : ℕ) (xs : List ℕ) (y : ℕ) → AreNumbers at k xs → y ≡ number_at at k → AreNumbers at (k + 1) (xs ++ y ∷ [])
-numbers_more at k xs y h e =
-    let l = h.len in
-    record {
-      len = length-append xs (y ∷ []) ∙ ap (λ m. m + 1) l;
-      number = λ i b. elim (cases_lt i k) as (λ _. get_or (xs ++ y ∷ []) i 0 ≡ number_at at i) [
-        | inl q ↦ front_at 0 xs (y ∷ []) i (omega (arith, q, l)) ∙ h.number i q
-        | inr q ↦
-            let same : i ≡ k = omega (arith, b, q) in
-            ap (λ j. get_or (xs ++ y ∷ []) j 0) (same ∙ sym l) ∙ last_at 0 xs y ∙ e ∙ ap (number_at at) (sym same)
-      ];
-    }

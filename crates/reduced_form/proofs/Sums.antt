@@ -1,8 +1,8 @@
 -- The sums of kept rows, by their places, and the values of terms.
-use Rattle.std.proofs.Common.{◌≡◌, ◌≢◌, ℕ, zero, suc, ◌+◌, ◌<◌, ◌≤◌, true, false, List, [], ◌∷◌, length, get_or, map, refl, ap, sym, ◌∙◌, subst, arith, inl, inr}
+use Rattle.std.proofs.Common.{◌≡◌, ℕ, zero, suc, ◌<◌, true, false, List, [], ◌∷◌, length, get_or, map, refl, ap, sym, ◌∙◌, subst, arith, inl, inr}
 use Rattle.std.specs.Prelude.{Option, Some, None}
 use Rattle.std.proofs.lemmas.Bool.{cases_eq}
-use lib.IntN.{pos, negsuc}
+use lib.IntN.{negsuc}
 use Rattle.exact_frac.proofs.Overs.{over-neg}
 use Rattle.exact_frac.proofs.Parts.{neg-held, numerator}
 use Rattle.number_laws.proofs.NumberLaws.{num_mul-add, num_mul-zero, num_mul_assoc}
@@ -23,9 +23,8 @@ use Rattle.sparse_rows.proofs.Lines.{each_map}
 use Rattle.sparse_rows.proofs.Merging.{neg-not_zero}
 use Rattle.sparse_rows.proofs.Tables.{one_not_zero, pivot-other, pivot-own}
 use Rattle.reduced_form.specs.Forms.{term_of}
-use Rattle.reduced_form.specs.Eliminated.{AreNumbers, ArePivots, AreTold, entries_at, entry_term, pivot_at, signed_fraction, terms_told, told_by, teller}
+use Rattle.reduced_form.specs.Eliminated.{AreNumbers, ArePivots, AreTold, entries_at, entry_term, pivot_at, signed_fraction, told_by}
 use Rattle.reduced_form.proofs.FormLaws.{unit_value}
-use Rattle.reduced_form.proofs.Numbering.{option_cases}
 
 -- ---- pivots
 pivot_clash : (κ : Kept) (κs : List Kept) → IsLeading κ → Each (AreApart κ) κs → (j : ℕ) → j < length κs → κ.pivot ≡ pivot_at κs j → ⊥

@@ -1,6 +1,6 @@
 -- The unknowns of an elimination, and its rows by their places.
-use Rattle.std.proofs.Common.{◌≡◌, ◌≢◌, ℕ, zero, suc, ◌+◌, ◌^◌, ◌<◌, ◌≤◌, ◌↔◌, Bool, true, false, List, [], ◌∷◌, ◌++◌, cond, take, add-one, length, get_or, map, refl, ap, sym, ◌∙◌, subst, arith, ◌⊎◌, inl, inr, nat_eq}
-use Rattle.std.specs.Prelude.{Option, Some, None, Contains, IsTrue, nat_lt, unsigned_abs}
+use Rattle.std.proofs.Common.{◌≡◌, ◌≢◌, ℕ, zero, suc, ◌+◌, ◌^◌, ◌<◌, ◌≤◌, true, false, List, [], ◌∷◌, ◌++◌, cond, take, add-one, length, get_or, map, refl, ap, sym, ◌∙◌, subst, arith, inl, inr, nat_eq}
+use Rattle.std.specs.Prelude.{Some, Contains, IsTrue, nat_lt, unsigned_abs}
 use Rattle.std.proofs.lemmas.Bool.{cases_lt, cases_eq}
 use Rattle.std.proofs.lemmas.Bool.Decides.{nat_tests}
 use Rattle.std.proofs.lemmas.List.{get_or-map, length-map}
@@ -14,9 +14,9 @@ use Rattle.tensor_defs.specs.Tensor.{Index, Tensor, component_number, index_of}
 use Rattle.tensor_laws.proofs.ComponentNumbers.{length-index_of, number-index_of}
 use Rattle.tensor_laws.proofs.Unique.{none_some, some_same}
 use Rattle.sign_moves.specs.declared.classes.Entry.{Entry}
-use Rattle.sign_moves.specs.Classes.{first_at, sign_at, vanishes_at}
+use Rattle.sign_moves.specs.Classes.{first_at, sign_at}
 use Rattle.sign_moves.specs.Signs.{signed}
-use Rattle.tensor_rank.specs.IndexLaws.{index_number_at, component_below_at}
+use Rattle.tensor_rank.specs.IndexLaws.{component_below_at}
 use Rattle.tensor_rank.specs.Orders.{Ordering, before_at, before_of}
 use Rattle.tensor_rank.specs.StrictOrders.{orders_are_orders}
 use Rattle.constraint_rows.specs.Classes.{class_at}
@@ -27,10 +27,9 @@ use Rattle.sparse_rows.specs.KeptRows.{AreGivenRows, IsEliminated, lines}
 use Rattle.sparse_rows.specs.Rows.{coeff, part}
 use Rattle.sparse_rows.specs.Solutions.{IsKeptWithin, IsWithin, Solve, dot}
 use Rattle.sparse_rows.specs.Sums.{sum_entries}
-use Rattle.sparse_rows.specs.WholeRows.{AreWhole, IsWholeRow, whole_line, whole_part}
+use Rattle.sparse_rows.specs.WholeRows.{AreWhole, whole_line, whole_part}
 use Rattle.sparse_rows.specs.declared.entry.Entry.{Entry as SparseEntry}
 use Rattle.sparse_rows.specs.declared.entry.Row.{Row}
-use Rattle.sparse_rows.specs.declared.whole.WholeEntry.{WholeEntry}
 use Rattle.sparse_rows.proofs.Merging.{coeff-below, part-other, part-own}
 use Rattle.sparse_rows.proofs.PivotSums.{dot-entries}
 use Rattle.reduced_form.specs.Forms.{ArePlaces, IsFreeUpTo, free_at}
@@ -50,12 +49,8 @@ test_other u k h = grind (arith, nat_tests)
 pub less_is : (k n : ℕ) → k < n → nat_lt k n ≡ true
 less_is k n h = grind (arith, nat_tests)
 
-less_not : (k n : ℕ) → n ≤ k → nat_lt k n ≡ false
+pub less_not : (k n : ℕ) → n ≤ k → nat_lt k n ≡ false
 less_not k n h = grind (arith, nat_tests)
-
-pub each_two : {X : Type 0} (P Q R : X → Type 0) → ((x : X) → P x → Q x → R x) → (xs : List X) → Each P xs → Each Q xs → Each R xs
-each_two P Q R f [] p q = tt
-each_two P Q R f (x ∷ xs) p q = (f x p.0 q.0, each_two P Q R f xs p.1 q.1)
 
 -- ---- rows of whole numbers as rows of fractions
 abbrev pub entry_of : List ℕ → Part → SparseEntry

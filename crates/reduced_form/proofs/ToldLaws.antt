@@ -1,5 +1,5 @@
 -- The table that kept rows give runs through the component lists that classes and rows leave.
-use Rattle.std.proofs.Common.{◌≡◌, ◌≢◌, ℕ, zero, suc, ◌+◌, ◌^◌, ◌<◌, ◌≤◌, Bool, true, false, List, [], ◌∷◌, length, get_or, map, refl, ap, sym, ◌∙◌, subst, arith, inl, inr}
+use Rattle.std.proofs.Common.{◌≡◌, ℕ, ◌^◌, ◌<◌, ◌≤◌, true, false, List, [], ◌∷◌, length, get_or, map, refl, ap, sym, ◌∙◌, subst, arith, inl, inr}
 use Rattle.std.specs.Prelude.{Err, IfErr, IsErrAnd, IsTrue, None, Ok, Option, Result, Some, slice_get}
 use Rattle.std.proofs.lemmas.Bool.{cases_lt}
 use Rattle.std.proofs.lemmas.List.{get_or-map, ext_get_or, length-map}
@@ -10,19 +10,19 @@ use Rattle.tensor_defs.specs.Lists.{Each, IsRising}
 use Rattle.tensor_defs.specs.Number.{Number, num_zero}
 use Rattle.tensor_defs.specs.Table as defs
 use Rattle.tensor_defs.specs.Table.{AreTerms, IsChoice, IsProper, Table, alone, chosen, places_rise, sum_terms, value_at}
-use Rattle.tensor_defs.specs.Tensor.{Agree, Index, Tensor, component_number, index_of}
-use Rattle.tensor_laws.proofs.ComponentNumbers.{length-index_of, number-index_of}
+use Rattle.tensor_defs.specs.Tensor.{Index, Tensor, component_number, index_of}
+use Rattle.tensor_laws.proofs.ComponentNumbers.{length-index_of}
 use Rattle.sign_moves.specs.declared.classes.Entry.{Entry}
 use Rattle.sign_moves.specs.Signs.{signed}
 use Rattle.tensor_rank.specs.IndexLaws.{component_below_at, index_number_at}
 use Rattle.tensor_rank.specs.Orders.{Ordering, before_at, before_of}
 use Rattle.constraint_rows.specs.Classes.{class_at}
-use Rattle.constraint_rows.specs.WordRows.{AreParts, IsGiven, IsOwn}
+use Rattle.constraint_rows.specs.WordRows.{IsGiven, IsOwn}
 use Rattle.constraint_rows.specs.declared.rows.Part.{Part}
 use Rattle.sparse_rows.specs.Free.{is_pivot}
 use Rattle.sparse_rows.specs.KeptRows.{IsEliminated, kepts, lines}
-use Rattle.sparse_rows.specs.Rows.{Above, IsEntry, IsRow}
-use Rattle.sparse_rows.specs.Solutions.{IsKeptWithin, IsReduced, IsWithin, Solve, lines_of}
+use Rattle.sparse_rows.specs.Rows.{Above, IsRow}
+use Rattle.sparse_rows.specs.Solutions.{IsKeptWithin, IsReduced, Solve, lines_of}
 use Rattle.sparse_rows.specs.Sums.{AreSolved, sum_entries}
 use Rattle.sparse_rows.specs.declared.entry.Entry.{Entry as SparseEntry}
 use Rattle.sparse_rows.specs.declared.entry.KeptRow.{KeptRow}
@@ -30,14 +30,14 @@ use Rattle.sparse_rows.specs.declared.entry.PivotSum.{PivotSum}
 use Rattle.sparse_rows.specs.declared.entry.Row.{Row}
 use Rattle.sparse_rows.proofs.Lines.{each_map}
 use Rattle.reduced_form.specs.declared.forms.Term.{Term}
-use Rattle.reduced_form.specs.Forms.{FormValue, IsForm, form_table, free_at, row_at, term_of, unit_term}
+use Rattle.reduced_form.specs.Forms.{FormValue, IsForm, form_table, free_at, row_at, term_of}
 use Rattle.reduced_form.specs.Eliminated.{AreNumbers, ArePivots, AreSparse, AreTold, IsSystem, IsToldForm, class_row, entries_at, entry_term, free_places, number_at, pivot_at, teller, terms_told, told_by}
 use Rattle.reduced_form.specs.Solving.{FitsSet, IsSolution, lines_at}
 use Rattle.reduced_form.proofs.FormLaws.{each_get, get_told, rising_get, unit_proper, unit_value}
 use Rattle.reduced_form.proofs.FreeLaws.{orders_total}
 use Rattle.reduced_form.proofs.Numbering.{free_place, length-kepts, number_few, number_less, number_rises, option_cases, place_numbered}
 use Rattle.reduced_form.proofs.Sums.{IsSumAt, told_ranges, entries_value, entry_proper, is_pivot_at, pivot_within, pivots_apart, solved_sums, sum_at, sums_agree, sums_solved, told_value}
-use Rattle.reduced_form.proofs.Systems.{in_n, kept_within, index_list, less_is, lines_same, lines_within, number_is, parts_of, place_unknown, placed_first, placed_own, small, solve_sums, sums_solve, unknown_below, unknown_own}
+use Rattle.reduced_form.proofs.Systems.{in_n, kept_within, index_list, less_is, lines_same, number_is, parts_of, place_unknown, placed_first, solve_sums, sums_solve, unknown_below, unknown_own}
 
 true_false : true ≡ false → ⊥
 true_false e = cc

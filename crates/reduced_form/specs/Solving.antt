@@ -3,7 +3,7 @@
 --   IsSolution      zero where a class vanishes, else its sign times its representative, and each row adds up to zero
 --   line_at, lines_at    rows over the places of the unknowns
 -- Source: the definition of a parametrised linear space.
-use Rattle.std.specs.Prelude.{◌≡◌, ℕ, ◌<◌, ◌^◌, Bool, List, [], ◌∷◌, length, IsTrue, map, slice_get, Some, None}
+use Rattle.std.specs.Prelude.{◌≡◌, ℕ, ◌<◌, ◌^◌, Bool, List, [], ◌∷◌, length, IsTrue, slice_get, Some, None}
 use Rattle.tensor_defs.specs.declared.Sign.{Sign}
 use Rattle.tensor_defs.specs.Elimination.{Line, by_place}
 use Rattle.tensor_defs.specs.Lists.{Each, IsRising}

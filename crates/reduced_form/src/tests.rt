@@ -4,7 +4,7 @@ ghost use Rattle.tensor_defs.specs.Number.{limit};
 ghost use Rattle.tensor_rank.specs.Orders.{ByIndex, before_at};
 ghost use Rattle.constraint_rows.specs.WordRows.{AreSound, IsGiven, IsOwn};
 
-use crate::{SolveFault, eliminate, solve};
+use crate::{Form, SolveFault, eliminate, solve};
 use constraint_rows::{Classes, Part, Row, axis_classes};
 use group_symbol::read_group;
 use jahn_grammar::read_jahn;
@@ -12,6 +12,16 @@ use magnetic_groups::build_group;
 use std::alloc::Global;
 use std::test::Fail;
 use tensor_rank::{Comp, Order, Rank, Shape, Sign, at_rank, compile};
+
+/// The table of a group in index order.
+fn table_of<R: Rank>(alloc: Global, group: &str, shape: &Shape<R>) -> Option<Form<R>> {
+    let tree = read_group(group.as_bytes()).ok()?;
+    let group = build_group(alloc, &tree).ok()?;
+    if !group.is_framed() {
+        return None;
+    }
+    solve(alloc, &group, shape, &Order::index()).ok()
+}
 
 /// Whether the table of a group in index order has as many free components and these lines.
 fn has_lines<R: Rank>(
@@ -21,12 +31,7 @@ fn has_lines<R: Rank>(
     count: usize,
     lines: &str,
 ) -> Option<bool> {
-    let tree = read_group(group.as_bytes()).ok()?;
-    let group = build_group(alloc, &tree).ok()?;
-    if !group.is_framed() {
-        return None;
-    }
-    let form = solve(alloc, &group, shape, &Order::index()).ok()?;
+    let form = table_of(alloc, group, shape)?;
     let mut text = Vec::new(alloc);
     form.write_table(&mut text).ok()?;
     Some(form.free_count() == count && text.as_slice() == lines.as_bytes())
@@ -77,12 +82,7 @@ fn tables_have_lines(rt: HostRuntime) -> Result<(), Fail> {
 
 /// How many free components the table of a group in index order has; none also where memory was refused.
 fn count_in<R: Rank>(alloc: Global, group: &str, shape: &Shape<R>) -> Option<usize> {
-    let tree = read_group(group.as_bytes()).ok()?;
-    let group = build_group(alloc, &tree).ok()?;
-    if !group.is_framed() {
-        return None;
-    }
-    let form = solve(alloc, &group, shape, &Order::index()).ok()?;
+    let form = table_of(alloc, group, shape)?;
     Some(form.free_count())
 }
 
@@ -202,6 +202,52 @@ fn eliminates_on_classes(rt: HostRuntime) -> Result<(), Fail> {
     for (large, want) in [(4611686018427387903, true), (4611686018427387902, false)] {
         let is_refused = at_rank!(&shape, s => refused(alloc, &s, large));
         assert_eq!(rt; is_refused, Some(want));
+    }
+    Ok(())
+}
+
+/// The number of the last free component of a group's table.
+fn last_free<R: Rank>(alloc: Global, group: &str, shape: &Shape<R>) -> Option<u16> {
+    let form = table_of(alloc, group, shape)?;
+    let last = form.free_count().checked_sub(1)?;
+    Some(form.free_at(last).number())
+}
+
+/// Whether the tables of two groups are the same.
+fn have_same_form<R: Rank>(
+    alloc: Global,
+    one: &str,
+    other: &str,
+    shape: &Shape<R>,
+) -> Option<bool> {
+    Some(table_of(alloc, one, shape)?.same_form(&table_of(alloc, other, shape)?))
+}
+
+/// The last free component under a group, and whether the table is that of another group.
+fn compares(alloc: Global, one: &str, other: &str, word: &str) -> Option<(u16, bool)> {
+    if word.len() > 4000 {
+        return None;
+    }
+    let jahn = read_jahn(alloc, word.as_bytes()).ok()?;
+    let shape = compile(alloc, &jahn).ok()?;
+    at_rank!(shape, s => Some((last_free(alloc, one, &s)?, have_same_form(alloc, one, other, &s)?)))
+}
+
+#[test]
+fn tables_are_compared(rt: HostRuntime) -> Result<(), Fail> {
+    let rows = [
+        ("2@z", "4", "V", 2, true),
+        ("2", "4", "V", 1, false),
+        ("4/mmm", "422", "[V2]", 8, true),
+        ("6mm", "4mm", "[V2]", 8, true),
+        ("1", "-1", "{V2}", 5, true),
+    ];
+    for (one, other, word, last, same) in rows {
+        assert_eq!(rt;
+            compares(rt.alloc(), one, other, word),
+            Some((last, same)),
+            "{one} {other} {word}"
+        );
     }
     Ok(())
 }

@@ -1,10 +1,28 @@
 //! Worked answers.
+ghost use Rattle.std.specs.Prelude.{IfSome};
+ghost use Rattle.tensor_defs.specs.Frames.{IsFramed};
+ghost use Rattle.tensor_defs.specs.Group.{InGroup};
+ghost use Rattle.tensor_defs.specs.Lists.{IsListing};
+ghost use Rattle.tensor_defs.specs.OperationOrder.{comes_before};
+ghost use Rattle.magnetic_groups.specs.Sets.{In};
+
 use crate::{answer_form, answer_same};
-use group_symbol::read_group;
+use group_symbol::{SymbolTree, read_group};
 use jahn_grammar::read_jahn;
-use magnetic_groups::build_group;
+use magnetic_groups::{Group, build_group};
 use std::alloc::Global;
 use std::test::Fail;
+
+/// The group of a symbol.
+fn group_of(alloc: Global, tree: &SymbolTree) -> Option<Group>
+    ensures listing { IfSome result (λ hs. IsListing comes_before (InGroup tree.now) hs) }
+    ensures framed { IfSome result (λ hs. IsFramed (In hs)) }
+{
+    match build_group(alloc, tree) {
+        Ok(group) => Some(group),
+        Err(_) => None,
+    }
+}
 
 /// Whether the form of a group and a symbol is this text, behind what stood there.
 fn has_form(alloc: Global, group: &str, word: &str, text: &str) -> Option<bool> {
@@ -12,7 +30,7 @@ fn has_form(alloc: Global, group: &str, word: &str, text: &str) -> Option<bool> 
         return None;
     }
     let tree = read_group(group.as_bytes()).ok()?;
-    let elements = build_group(alloc, &tree).ok()?;
+    let elements = group_of(alloc, &tree)?;
     let jahn = read_jahn(alloc, word.as_bytes()).ok()?;
     let mut out = Vec::new(alloc);
     answer_form(alloc, &tree, &elements, &jahn, &mut out).ok()?;
@@ -26,8 +44,8 @@ fn has_same(alloc: Global, one: &str, other: &str, word: &str, text: &str) -> Op
     }
     let g = read_group(one.as_bytes()).ok()?;
     let h = read_group(other.as_bytes()).ok()?;
-    let first = build_group(alloc, &g).ok()?;
-    let second = build_group(alloc, &h).ok()?;
+    let first = group_of(alloc, &g)?;
+    let second = group_of(alloc, &h)?;
     let jahn = read_jahn(alloc, word.as_bytes()).ok()?;
     let mut out = Vec::new(alloc);
     answer_same(alloc, &g, &h, &first, &second, &jahn, &mut out).ok()?;

@@ -1,15 +1,10 @@
 use Rattle.std.proofs.Common.{◌≡◌, ℕ, ◌<◌, List, [], length, sym, subst}
-use Rattle.tensor_defs.specs.Elimination.{AreUnknowns, GrowsFrom}
+use Rattle.tensor_defs.specs.Elimination.{GrowsFrom}
 use Rattle.tensor_defs.specs.Lists.{Each}
-use Rattle.tensor_defs.specs.Tensor.{Index}
-use Rattle.tensor_rank.specs.Orders.{before_of}
-use Rattle.constraint_rows.specs.WordRows.{carrier_of}
 use Rattle.sparse_rows.specs.KeptRows.{AreGivenRows, IsEliminated, kepts, lines}
 use Rattle.sparse_rows.specs.Solutions.{IsKeptWithin}
-use Rattle.reduced_form.specs.declared.memory.SolveFault.TheVariants.{TooLarge}
 use Rattle.reduced_form.specs.Forms.{free_at}
 use Rattle.reduced_form.specs.Eliminated.{AreSparse, CanPlace}
-use Rattle.reduced_form.specs.Solving.{lines_at}
 use Rattle.reduced_form.proofs.FreeLaws.{free_apart, orders_total}
 use Rattle.reduced_form.proofs.Systems.{grows_told, kept_within, parts_of, rows_given, rows_place, system_made, told_grows}
 use Rattle.reduced_form.proofs.ToldLaws.{eliminated_fits, err_same}

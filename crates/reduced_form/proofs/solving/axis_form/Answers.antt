@@ -1,4 +1,4 @@
-use Rattle.std.proofs.Common.{◌≡◌, List, [], sym, subst}
+use Rattle.std.proofs.Common.{List, [], sym, subst}
 use Rattle.std.specs.Prelude.{filter}
 use Rattle.tensor_defs.specs.Elimination.{AreUnknowns, GrowsFrom}
 use Rattle.tensor_defs.specs.Lists.{Each}

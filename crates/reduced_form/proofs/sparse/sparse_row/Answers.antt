@@ -1,4 +1,4 @@
-use Rattle.std.proofs.Common.{◌≡◌, ◌++◌, ◌∷◌, [], ◌<◌, get_or, sym, ◌∙◌, length, arith, rules, w64, SFits}
+use Rattle.std.proofs.Common.{◌++◌, ◌∷◌, [], ◌<◌, get_or, sym, ◌∙◌, length, arith, rules, w64, SFits}
 use Rattle.std.proofs.lemmas.Int.{to_z-of_z}
 use Rattle.constraint_rows.specs.declared.rows.Part.{Part}
 use Rattle.reduced_form.specs.Eliminated.{whole_of}

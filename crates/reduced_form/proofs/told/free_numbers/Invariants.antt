@@ -1,4 +1,4 @@
-use Rattle.std.proofs.Common.{◌≡◌, ◌≤◌, length, map}
+use Rattle.std.proofs.Common.{◌≡◌, map}
 use Rattle.reduced_form.specs.Forms.{free_at}
 use Rattle.reduced_form.specs.Eliminated.{AreNumbers, free_places}
 use Rattle.reduced_form.proofs.told.free_numbers.Given as goal

@@ -1,4 +1,3 @@
-use Rattle.std.proofs.Common.{length}
 use Rattle.sparse_rows.specs.KeptRows.{kepts}
 use Rattle.reduced_form.specs.Eliminated.{ArePivots}
 use Rattle.reduced_form.proofs.told.tellers_of.Given as goal
