@@ -3,3 +3,4 @@ pub mod PrimePatterns
 pub mod Names
 pub mod Orders
 pub mod RuledOut
+pub mod Forms

@@ -2,7 +2,7 @@
 //! the symbols: International Tables for Crystallography D 1.1; the order is this project's own.
 #![tactic(auto)]
 
-ghost use Rattle.std.specs.Prelude.{◌≡◌, ◌≤◌, ◌<◌, ◌↔◌, ◌^◌, ◌-◌, ℕ, IsTrue, IfOk, List, Contains, [], ◌∷◌, filter, true, false};
+ghost use Rattle.std.specs.Prelude.{◌≡◌, ◌≤◌, ◌<◌, ◌↔◌, ◌^◌, ◌-◌, ℕ, IsTrue, IfOk, List, Contains, [], ◌∷◌, filter, true, false, Bool, None};
 ghost use Rattle.std.specs.List.{flat_map};
 ghost use Rattle.tensor_defs.specs.Operation.{Operation};
 ghost use Rattle.tensor_defs.specs.Group.{InGroup, IsBelow};
@@ -10,8 +10,9 @@ ghost use Rattle.tensor_defs.specs.Lists.{up_to};
 ghost use Rattle.tensor_defs.specs.Names.{IsNamed, IsNameOf, settings_of, symbols_with, turned_bits};
 ghost use Rattle.tensor_defs.specs.Symbols.{IsGroupSymbol, operator_count, takes_setting};
 ghost use Rattle.group_symbol.specs.Readings.{symbol_of};
+ghost use Rattle.op_matrix.specs.Table.{marked};
 ghost use Rattle.magnetic_groups.specs.Sets.{In, IsGroup};
-ghost use Rattle.group_names.specs.LookUps.{BoundsOrder, IsFirstNamed, HoldsAll, order_of, pattern};
+ghost use Rattle.group_names.specs.LookUps.{BoundsOrder, IsFirstNamed, HoldsAll, LacksForm, order_of, pattern};
 
 #[cfg(test)]
 mod tests;
@@ -133,6 +134,46 @@ fn name_primed(
     Ok(None)
 }
 
+/// Whether an element has the operation's matrix, unprimed or primed.
+fn has_matrix(group: &Group, op: &Op) -> bool
+    ensures { result ≡ false → (b : Bool) → ¬ Contains group.now (marked op.now b) }
+{
+    let place = op.place() / 2 * 2;
+    let unprimed = Op::at_place(place);
+    let primed = Op::at_place(place + 1);
+    if group.has(&unprimed) {
+        return true;
+    }
+    group.has(&primed)
+}
+
+/// Whether each of the operations has its matrix among the elements.
+fn holds_matrices(group: &Group, operations: &[Op]) -> bool
+    ensures { result ≡ false → LacksForm group.now operations.now }
+{
+    for operation in operations {
+        if !has_matrix(group, operation) {
+            return false;
+        }
+    }
+    true
+}
+
+/// Whether the operators of a parent in a setting are elements, unprimed or primed. Else none of its symbols names
+/// the group.
+fn may_hold(group: &Group, parent: Parent, setting: Setting) -> bool
+    requires first { 1 ≤ parent }
+    requires last { parent ≤ 42 }
+    requires takes { takes_setting parent setting ≡ true }
+    ensures { result ≡ false → IsFirstNamed (In group.now) (symbols_with parent setting) None }
+{
+    let Some(tree) = SymbolTree::new(parent, 0, false, setting) else {
+        return true;
+    };
+    let operations = generators_of(&tree);
+    holds_matrices(group, operations.as_slice())
+}
+
 /// The first name among the symbols of a parent and a setting.
 fn name_with(
     alloc: Global,
@@ -145,6 +186,9 @@ fn name_with(
     requires takes { takes_setting parent setting ≡ true }
     ensures { IfOk result (IsFirstNamed (In group.now) (symbols_with parent setting)) }
 {
+    if !may_hold(group, parent, setting) {
+        return Ok(None);
+    }
     if let Some(tree) = try_symbol(alloc, group, parent, 0, false, setting)? {
         return Ok(Some(tree));
     }
