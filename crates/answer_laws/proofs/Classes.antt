@@ -8,6 +8,9 @@ use Rattle.std.proofs.Common.{◌≡◌, ℕ, zero, suc, ◌-◌, ◌<◌, ◌�
 use Rattle.std.proofs.Common.{ap, sym, ◌∙◌, arith, inl, inr, subst}
 use Rattle.std.specs.Prelude.{Option, Some, None, Contains, IsTrue, nat_lt, get_or, slice_get, ◌↔◌}
 use Rattle.std.proofs.lemmas.Bool.Decides.{nat_tests}
+use Rattle.list_laws.proofs.Lists.{held_here, held_cases}
+use Rattle.list_laws.proofs.Members.{each_held}
+use Rattle.list_laws.proofs.Rising.{rising_same}
 use Rattle.tensor_defs.specs.Group.{InGroup, IsBelow}
 use Rattle.tensor_defs.specs.Lists.{Each, IsRising, IsListing}
 use Rattle.tensor_defs.specs.Names.{IsNamed, IsNameOf}
@@ -20,7 +23,7 @@ use Rattle.tensor_laws.proofs.Associativity.{product_assoc, product_assoc_back}
 use Rattle.text_defs.specs.AnswerTexts.{pairs_text}
 use Rattle.answer_laws.proofs.DomainStates.{one_state_list}
 use Rattle.answer_laws.proofs.Groups.{IsGroup, one_times, times_one, symbol_group}
-use Rattle.answer_laws.proofs.Listings.{held_here, held_cases, each_held, rising_same, operations_listed}
+use Rattle.answer_laws.proofs.Listings.{operations_listed}
 use Rattle.answer_laws.specs.Laws.{OnePairs}
 
 -- ---- names

@@ -7,6 +7,8 @@ use Rattle.std.proofs.Common.{◌≡◌, ℕ, ◌+◌, Bool, true, false, cond, 
 use Rattle.std.proofs.Common.{◌⊎◌, inl, inr, subst}
 use Rattle.std.specs.Prelude.{Contains, IsTrue}
 use Rattle.std.proofs.lemmas.Bool.Decides.{eqb_tells}
+use Rattle.list_laws.proofs.Lists.{held_here, held_later, held_cases, none_held}
+use Rattle.list_laws.proofs.Members.{each_held, each_from, each_map}
 use Rattle.tensor_defs.specs.Group.{InGroup, IsBelow}
 use Rattle.tensor_defs.specs.Lists.{Each, IsRising, IsListing}
 use Rattle.tensor_defs.specs.Operation.{Operation}
@@ -15,7 +17,7 @@ use Rattle.tensor_defs.specs.Symbols.{GroupSymbol, IsGroupSymbol}
 use Rattle.text_defs.specs.Refusals.{IsOutside}
 use Rattle.tensor_laws.proofs.Products.{both}
 use Rattle.answer_laws.proofs.Groups.{symbol_framed}
-use Rattle.answer_laws.proofs.Listings.{held_here, held_later, held_cases, none_held, each_held, each_from, each_map, before_transitive}
+use Rattle.answer_laws.proofs.Listings.{before_transitive}
 use Rattle.answer_laws.proofs.Matrices.{frame, marked, InFrame, is_in, same_matrix, same_matrix_true, for_all, is_in_marked, from_test}
 
 abbrev pub NotFalse : Type 0 → Type 0

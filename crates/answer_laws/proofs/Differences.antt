@@ -8,6 +8,8 @@ use Rattle.std.specs.Prelude.{◌≢◌, true, map, codes, IsTrue, Contains, nat
 use Rattle.std.specs.List.{flat_map}
 use Rattle.std.specs.Fmt.{decimal}
 use Rattle.std.proofs.lemmas.Bool.Decides.{nat_tests}
+use Rattle.list_laws.proofs.Members.{each_map, each_held, each_from}
+use Rattle.list_laws.proofs.Rising.{rising_same, listing_same}
 use Rattle.tensor_defs.specs.Group.{InGroup}
 use Rattle.tensor_defs.specs.Jahn.{JahnSymbol, rank}
 use Rattle.tensor_defs.specs.Lists.{Each}
@@ -16,6 +18,7 @@ use Rattle.tensor_defs.specs.Operation.{Operation}
 use Rattle.tensor_defs.specs.Orders.{index_before}
 use Rattle.tensor_defs.specs.StateRows.{factor_at, state_part, sum_of, state_row, RootTerm, root_places_rise, IsStateRow}
 use Rattle.tensor_defs.specs.StateRows.{Distinguishes}
+use Rattle.tensor_defs.specs.Symbols.{GroupSymbol, IsGroupSymbol}
 use Rattle.tensor_defs.specs.Table.{Table}
 use Rattle.tensor_defs.specs.Tensor.{Index, Marks, indices, sign, coefficient}
 use Rattle.tensor_laws.proofs.IndexOrder.{index_order}
@@ -24,11 +27,10 @@ use Rattle.text_defs.specs.AnswerTexts.{line_of, equation, component_name, named
 use Rattle.text_defs.specs.AnswerTexts.{or_none}
 use Rattle.text_defs.specs.GroupTexts.{group_text}
 use Rattle.text_defs.specs.JahnTexts.{jahn_text}
-use Rattle.text_defs.specs.Answers.{IsStateText, AreStateTexts}
+use Rattle.text_defs.specs.Answers.{IsStateText, AreStateTexts, IsDifferText}
 use Rattle.answer_laws.proofs.DomainStates.{one_state_list}
-use Rattle.answer_laws.proofs.Forms.{flat_map_same, indices_of_rank}
+use Rattle.answer_laws.proofs.Forms.{flat_map_same, indices_of_rank, joined_same}
 use Rattle.answer_laws.proofs.Groups.{symbol_group}
-use Rattle.answer_laws.proofs.Listings.{each_map, each_held, each_from, rising_same, listing_same}
 use Rattle.answer_laws.proofs.Roots.{one_root}
 use Rattle.answer_laws.specs.Laws.{OneDiffer}
 
@@ -112,17 +114,21 @@ module _ (j : JahnSymbol) (F : Operation → Type 0) (a b : Table) (free : a.fre
   state_texts_same k (g ∷ gs) x y p q =
       p.4 ∙ (λ n. state_text_same k g p.0 q.0 p.2 q.2 n ++ state_texts_same (k + 1) gs p.1 q.1 p.3 q.3 n) ∙ sym q.4
 
-pub one_differ_lem : OneDiffer
-one_differ_lem g f j h x y p q =
-    let F = InGroup f.symbol in
-    let order = index_order (rank j.jahn) in
-    let free = same_free j.jahn F index_before order p.table q.table p.fits q.fits in
-    let terms = same_terms j.jahn F index_before order p.table q.table p.fits q.fits in
-    let reps : p.reps ≡ q.reps = one_state_list (InGroup g.symbol) F (symbol_group f.symbol h) p.reps q.reps p.states
-    q.states in
-    let texts : p.texts ≡ q.texts = state_texts_same j.jahn F p.table q.table free terms 2 (drop 1 q.reps) p.texts
-    q.texts (subst (λ gs. AreStateTexts j.jahn F p.table 2 (drop 1 gs) p.texts) reps p.are_texts) q.are_texts in
+one_differ_text : (g f : GroupSymbol) → IsGroupSymbol f → (j : JahnSymbol) (x y : List ℕ) → IsDifferText g f j x →
+    IsDifferText g f j y → x ≡ y
+one_differ_text g f h j x y p q =
+    let F = InGroup f in
+    let order = index_order (rank j) in
+    let free = same_free j F index_before order p.table q.table p.fits q.fits in
+    let terms = same_terms j F index_before order p.table q.table p.fits q.fits in
+    let reps : p.reps ≡ q.reps = one_state_list (InGroup g) F (symbol_group f h) p.reps q.reps p.states q.states in
+    let texts : p.texts ≡ q.texts = state_texts_same j F p.table q.table free terms 2 (drop 1 q.reps) p.texts
+    q.texts (subst (λ gs. AreStateTexts j F p.table 2 (drop 1 gs) p.texts) reps p.are_texts) q.are_texts in
     p.text
-    ∙ (λ n. line_of (codes "differ" ∷ group_text g.symbol ∷ group_text f.symbol ∷ jahn_text j.jahn ∷ codes "states"
+    ∙ (λ n. line_of (codes "differ" ∷ group_text g ∷ group_text f ∷ jahn_text j ∷ codes "states"
     ∷ decimal (length (reps n)) ∷ codes "free" ∷ or_none (map component_name (free n)) ∷ []) ++ texts n)
     ∙ sym q.text
+
+pub one_differ_lem : OneDiffer
+one_differ_lem g f js h x y p q =
+    joined_same (IsDifferText g.symbol f.symbol) (one_differ_text g.symbol f.symbol h) js x y p q

@@ -6,6 +6,8 @@ use Rattle.std.proofs.Common.{◌≡◌, ◌≢◌, ℕ, Bool, true, false, List
 use Rattle.std.specs.Prelude.{Contains, IsTrue}
 use Rattle.std.proofs.lemmas.Bool.Decides.{eqb_tells}
 use lib.IntN.{ℤ, pos, negsuc}
+use Rattle.list_laws.proofs.Members.{each_held}
+use Rattle.list_laws.proofs.Rising.{rising_same}
 use Rattle.tensor_defs.specs.Group.{InGroup}
 use Rattle.tensor_defs.specs.Operation.{Entry, Row, Operation, identity}
 use Rattle.tensor_defs.specs.OperationOrder.{comes_before}
@@ -13,7 +15,7 @@ use Rattle.tensor_defs.specs.States.{Times, AreStates}
 use Rattle.tensor_laws.proofs.Associativity.{product_assoc_back}
 use Rattle.text_defs.specs.AnswerTexts.{states_text}
 use Rattle.answer_laws.proofs.Groups.{IsGroup, times_one, symbol_group}
-use Rattle.answer_laws.proofs.Listings.{each_held, rising_same, before_irreflexive, before_transitive}
+use Rattle.answer_laws.proofs.Listings.{before_irreflexive, before_transitive}
 use Rattle.answer_laws.specs.Laws.{OneStates}
 
 -- ---- operations are the same, or they aren't

@@ -1,12 +1,14 @@
--- A request for a form has one answer.
+-- A request for forms has one answer.
 --   flat_map_same       texts joined from texts that are the same
 --   indices_of_rank     the indices of a rank have that many digits
 --   component_line_same, form_text_same    tables with the same parts have the same lines
---   one_form_lem        a request for a form has one answer
+--   joined_same         answers joined from answers that are each told by the symbol
+--   one_form_lem        a request for forms has one answer
 use Rattle.std.proofs.Common.{◌≡◌, ℕ, zero, suc, List, [], ◌∷◌, ◌++◌, length, refl, ap, sym, ◌∙◌}
 use Rattle.std.specs.Prelude.{map, codes, ◌^◌}
 use Rattle.std.specs.List.{flat_map}
 use Rattle.std.specs.Fmt.{decimal}
+use Rattle.list_laws.proofs.Members.{each_map, each_append}
 use Rattle.tensor_defs.specs.Group.{InGroup}
 use Rattle.tensor_defs.specs.Jahn.{JahnSymbol, rank}
 use Rattle.tensor_defs.specs.Lists.{Each}
@@ -19,9 +21,10 @@ use Rattle.tensor_laws.proofs.IndexOrder.{index_order}
 use Rattle.tensor_laws.proofs.Unique.{same_free, same_terms}
 use Rattle.text_defs.specs.AnswerTexts.{line_of, row_text, has_index, component_name, named, component_line, table_text}
 use Rattle.text_defs.specs.AnswerTexts.{form_text}
+use Rattle.text_defs.specs.Answers.{IsFormText, AreJoined}
 use Rattle.text_defs.specs.GroupTexts.{group_text}
 use Rattle.text_defs.specs.JahnTexts.{jahn_text}
-use Rattle.answer_laws.proofs.Listings.{each_map, each_append}
+use Rattle.text_defs.specs.Requests.{JahnAt}
 use Rattle.answer_laws.specs.Laws.{OneForm}
 
 pub flat_map_same : {X : Type 0} (f g : X → List ℕ) (xs : List X) → Each (λ x. f x ≡ g x) xs →
@@ -62,9 +65,18 @@ form_text_same g j a b f t =
     λ i. line_of (codes "form" ∷ group_text g ∷ jahn_text j ∷ codes "free" ∷ decimal (length (f i)) ∷ codes "of"
     ∷ decimal (3 ^ rank j) ∷ []) ++ table_text_same (rank j) a b f t i
 
+pub joined_same : (Answer : JahnSymbol → List ℕ → Type 0) → ((j : JahnSymbol) (a b : List ℕ) → Answer j a → Answer j b →
+    a ≡ b) → (js : List JahnAt) (a b : List ℕ) → AreJoined Answer js a → AreJoined Answer js b → a ≡ b
+joined_same Answer one [] a b p q = p ∙ sym q
+joined_same Answer one (j ∷ js) a b p q =
+    p.4 ∙ (λ i. one j.jahn p.0 q.0 p.2 q.2 i ++ joined_same Answer one js p.1 q.1 p.3 q.3 i) ∙ sym q.4
+
+one_form_text : (g : GroupSymbol) (j : JahnSymbol) (a b : List ℕ) → IsFormText g j a → IsFormText g j b → a ≡ b
+one_form_text g j a b p q =
+    let H = InGroup g in
+    let order = index_order (rank j) in
+    p.2 ∙ form_text_same g j p.0 q.0 (same_free j H index_before order p.0 q.0 p.1 q.1)
+    (same_terms j H index_before order p.0 q.0 p.1 q.1) ∙ sym q.2
+
 pub one_form_lem : OneForm
-one_form_lem g j a b p q =
-    let H = InGroup g.symbol in
-    let order = index_order (rank j.jahn) in
-    p.2 ∙ form_text_same g.symbol j.jahn p.0 q.0 (same_free j.jahn H index_before order p.0 q.0 p.1 q.1)
-    (same_terms j.jahn H index_before order p.0 q.0 p.1 q.1) ∙ sym q.2
+one_form_lem g js a b p q = joined_same (IsFormText g.symbol) (one_form_text g.symbol) js a b p q

@@ -9,6 +9,8 @@ use Rattle.std.specs.Prelude.{Option, Some, None, Contains}
 use Rattle.std.proofs.lemmas.Bool.{cases_lt}
 use mathlib.Core.Bool.{xor}
 use lib.IntN.{pos}
+use Rattle.list_laws.proofs.Tests.{xor_plain, plain_xor}
+use Rattle.list_laws.proofs.Members.{each_held, each_append}
 use Rattle.number_laws.proofs.NumberLaws.{num_add-zero, num_zero-add, num_one-mul, num_mul-one, num_zero-mul, num_mul-zero}
 use Rattle.tensor_defs.specs.declared.Setting.{Setting}
 use Rattle.tensor_defs.specs.declared.Setting.TheVariants as setting
@@ -21,7 +23,6 @@ use Rattle.tensor_defs.specs.Symbols.{listed, generators, GroupSymbol, IsGroupSy
 use Rattle.tensor_laws.proofs.Associativity.{product_assoc, product_assoc_back}
 use Rattle.tensor_laws.proofs.Products.{both, product_unique, generated_within}
 use Rattle.text_defs.specs.GroupTexts.{SpellsGroup, grey_one}
-use Rattle.answer_laws.proofs.Listings.{each_held, each_append}
 use Rattle.answer_laws.proofs.Matrices.{is_in, turns, InFrame, IsTurn, one_in_frame, turn_times, power_back}
 
 -- ---- the identity and associativity
@@ -32,16 +33,6 @@ entry_one = same_numbers _ _ (record { same_p = refl; same_q = refl })
 entry_zero : half_of (pos 0) (pos 0) ≡ num_zero
 unfolding half_of whole
 entry_zero = same_numbers _ _ (record { same_p = refl; same_q = refl })
-
-xor_false : (a : Bool) → a ≡ xor a false
-unfolding xor
-xor_false true = refl
-xor_false false = refl
-
-false_xor : (a : Bool) → a ≡ xor false a
-unfolding xor
-false_xor true = refl
-false_xor false = refl
 
 first_kept : (x y z : Number) → x ≡ add (mul num_one x) (add (mul num_zero y) (mul num_zero z))
 first_kept x y z = sym (simp (num_zero-mul, num_one-mul, num_add-zero, num_zero-add))
@@ -92,7 +83,7 @@ unfolding value
 value_32 = entry_zero
 
 pub one_times : (g : Operation) → IsProduct identity g g
-one_times g = record { entries = entries; marks = false_xor g.primed }
+one_times g = record { entries = entries; marks = plain_xor g.primed }
   where
     entries : (i j : Axis) → value g i j ≡ sum_axes (λ m. mul (value identity i m) (value g m j))
     entries x1 j = first_kept (value g x1 j) (value g x2 j) (value g x3 j)
@@ -106,7 +97,7 @@ one_times g = record { entries = entries; marks = false_xor g.primed }
         (mul (on_diagonal x3 n) (value g x3 j))))
 
 pub times_one : (g : Operation) → IsProduct g identity g
-times_one g = record { entries = entries; marks = xor_false g.primed }
+times_one g = record { entries = entries; marks = xor_plain g.primed }
   where
     entries : (i j : Axis) → value g i j ≡ sum_axes (λ m. mul (value g i m) (value identity m j))
     entries i x1 = first_taken (value g i x1) (value g i x2) (value g i x3)

@@ -1,22 +1,25 @@
 -- At most one refusal applies to a line.
 --   one_fault_place     a text goes wrong at one place
 --   one_outside         one number of the first element outside
+--   one_first           the first Jahn word of which a fact holds stands at one column
 --   one_refusal_of      at most one refusal applies to a request
---   one_refusal_lem     at most one refusal applies to a line
+--   one_refusal_lem     at most one refusal applies to a line of a format
 use Rattle.std.proofs.Common.{◌≡◌, ℕ, suc, ◌+◌, ◌<◌, ◌≤◌, List, [], ◌∷◌, ◌++◌, length, refl, ap, sym, ◌∙◌, arith, inl}
 use Rattle.std.proofs.Common.{inr, subst}
-use Rattle.std.specs.Prelude.{Option, Some, None}
 use Rattle.std.proofs.lemmas.Bool.{cases_lt}
+use Rattle.list_laws.proofs.Lists.{heads, tails}
 use Rattle.tensor_defs.specs.Group.{InGroup, IsAccepted}
+use Rattle.tensor_defs.specs.Jahn.{rank}
 use Rattle.tensor_defs.specs.Lists.{Each}
 use Rattle.tensor_defs.specs.Operation.{Operation}
 use Rattle.tensor_defs.specs.Symbols.{GroupSymbol}
 use Rattle.text_defs.specs.Languages.{IsFaulty}
 use Rattle.text_defs.specs.Refusals.{RefusalWord, Long, Syntax, Primes, Rank, Shape, NotSub, TooLarge, FirstRefused}
-use Rattle.text_defs.specs.Refusals.{OverRank, InRank, HasOtherShape, HasShape, IsOutside, IsNotSub, RefusesRequest}
-use Rattle.text_defs.specs.Refusals.{Refuses, jahn_of, groups_of}
-use Rattle.text_defs.specs.Requests.{GroupAt, JahnAt, Request, SpellsRequest}
-use Rattle.text_defs.specs.Requests.Request.{Form, Group, Voigt, States, Pairs, Differ, Same}
+use Rattle.text_defs.specs.Refusals.{HasOtherShape, HasShape, IsOutside, IsNotSub, RefusesRequest}
+use Rattle.text_defs.specs.Refusals.{Refuses, FirstAt, JahnGrows, jahns_of, groups_of}
+use Rattle.text_defs.specs.declared.Format.{Format}
+use Rattle.text_defs.specs.Requests.{GroupAt, JahnAt, Request, SpellsRequest, longest_line}
+use Rattle.text_defs.specs.Requests.Request.{Form, Group, Voigt, States, Pairs, Differ, Same, Comment}
 use Rattle.text_laws.proofs.RequestUnique.{one_request_spelled}
 use Rattle.answer_laws.proofs.Listings.{one_listing_lem}
 use Rattle.answer_laws.specs.Laws.{OneRefusal}
@@ -45,12 +48,6 @@ none_refused [] c a b = a
 none_refused (g ∷ gs) c (inl a) b = a.0 b.0
 none_refused (g ∷ gs) c (inr a) b = none_refused gs c a.1 b.1
 
-heads : {x y : Operation} {xs ys : List Operation} → x ∷ xs ≡ y ∷ ys → x ≡ y
-heads e = cc
-
-tails : {x y : Operation} {xs ys : List Operation} → x ∷ xs ≡ y ∷ ys → xs ≡ ys
-tails e = cc
-
 first_outside : (G : Operation → Type 0) (xs ys us vs : List Operation) (x y : Operation) → Each G xs → Each G ys →
     ¬ G x → ¬ G y → xs ++ x ∷ us ≡ ys ++ y ∷ vs → length xs ≡ length ys
 first_outside G [] [] us vs x y p q m n e = refl
@@ -75,15 +72,20 @@ one_not_sub (States g f) k l c d a b = (one_outside g.symbol f.symbol k l a.0 b.
 one_not_sub (Pairs g f) k l c d a b = (one_outside g.symbol f.symbol k l a.0 b.0, a.1 ∙ sym b.1)
 one_not_sub (Differ g f j) k l c d a b = (one_outside g.symbol f.symbol k l a.0 b.0, a.1 ∙ sym b.1)
 one_not_sub (Same g h j) k l c d a b = absurd a
+one_not_sub Comment k l c d a b = absurd a
 
 -- ---- rank and shape
-one_over : (o : Option JahnAt) (c d : ℕ) → OverRank o c → OverRank o d → c ≡ d
-one_over None c d a b = absurd a
-one_over (Some j) c d a b = a.1 ∙ sym b.1
+pub one_first : (Fact : JahnAt → Type 0) (js : List JahnAt) (c d : ℕ) → FirstAt Fact js c → FirstAt Fact js d → c ≡ d
+one_first Fact [] c d a b = absurd a
+one_first Fact (j ∷ js) c d (inl a) (inl b) = a.1 ∙ sym b.1
+one_first Fact (j ∷ js) c d (inl a) (inr b) = absurd (b.0 a.0)
+one_first Fact (j ∷ js) c d (inr a) (inl b) = absurd (a.0 b.0)
+one_first Fact (j ∷ js) c d (inr a) (inr b) = one_first Fact js c d a.1 b.1
 
-not_both_ranks : (o : Option JahnAt) (c : ℕ) → OverRank o c → InRank o → ⊥
-not_both_ranks None c a b = a
-not_both_ranks (Some j) c a b = omega (arith, a.0, b)
+not_both_ranks : (js : List JahnAt) (c : ℕ) → FirstAt (λ j. 6 < rank j.jahn) js c → Each (λ j. rank j.jahn ≤ 6) js → ⊥
+not_both_ranks [] c a b = a
+not_both_ranks (j ∷ js) c (inl a) b = omega (arith, a.0, b.0)
+not_both_ranks (j ∷ js) c (inr a) b = not_both_ranks js c a.1 b.1
 
 one_shape : (q : Request) (c d : ℕ) → HasOtherShape q c → HasOtherShape q d → c ≡ d
 one_shape (Form g j) c d a b = absurd a
@@ -93,6 +95,7 @@ one_shape (States g f) c d a b = absurd a
 one_shape (Pairs g f) c d a b = absurd a
 one_shape (Differ g f j) c d a b = absurd a
 one_shape (Same g h j) c d a b = absurd a
+one_shape Comment c d a b = absurd a
 
 not_both_shapes : (q : Request) (c : ℕ) → HasOtherShape q c → HasShape q → ⊥
 not_both_shapes (Form g j) c a b = a
@@ -102,9 +105,7 @@ not_both_shapes (States g f) c a b = a
 not_both_shapes (Pairs g f) c a b = a
 not_both_shapes (Differ g f j) c a b = a
 not_both_shapes (Same g h j) c a b = a
-
-some_same : (j k : JahnAt) → Some j ≡ Some k → j ≡ k
-some_same j k e = cc
+not_both_shapes Comment c a b = a
 
 -- ---- refusals of a request
 abbrev Agree : RefusalWord → RefusalWord → ℕ → ℕ → Type 0
@@ -122,68 +123,68 @@ one_refusal_of q Primes Shape c d a b = absurd (none_refused (groups_of q) c a b
 one_refusal_of q Primes (NotSub k) c d a b = absurd (none_refused (groups_of q) c a b.0)
 one_refusal_of q Primes TooLarge c d a b = absurd (none_refused (groups_of q) c a b.0)
 one_refusal_of q Rank Primes c d a b = absurd (none_refused (groups_of q) d b a.0)
-one_refusal_of q Rank Rank c d a b = (refl, one_over (jahn_of q) c d a.1 b.1)
-one_refusal_of q Rank Shape c d a b = absurd (not_both_ranks (jahn_of q) c a.1 b.1)
-one_refusal_of q Rank (NotSub k) c d a b = absurd (not_both_ranks (jahn_of q) c a.1 b.1)
-one_refusal_of q Rank TooLarge c d a b = absurd (not_both_ranks (jahn_of q) c a.1 b.1)
+one_refusal_of q Rank Rank c d a b = (refl, one_first (λ j. 6 < rank j.jahn) (jahns_of q) c d a.1 b.1)
+one_refusal_of q Rank Shape c d a b = absurd (not_both_ranks (jahns_of q) c a.1 b.1)
+one_refusal_of q Rank (NotSub k) c d a b = absurd (not_both_ranks (jahns_of q) c a.1 b.1)
+one_refusal_of q Rank TooLarge c d a b = absurd (not_both_ranks (jahns_of q) c a.1 b.1)
 one_refusal_of q Shape Primes c d a b = absurd (none_refused (groups_of q) d b a.0)
-one_refusal_of q Shape Rank c d a b = absurd (not_both_ranks (jahn_of q) d b.1 a.1)
+one_refusal_of q Shape Rank c d a b = absurd (not_both_ranks (jahns_of q) d b.1 a.1)
 one_refusal_of q Shape Shape c d a b = (refl, one_shape q c d a.2 b.2)
 one_refusal_of q Shape (NotSub k) c d a b = absurd (not_both_shapes q c a.2 b.2)
 one_refusal_of q Shape TooLarge c d a b = absurd (not_both_shapes q c a.2 b.2)
 one_refusal_of q (NotSub k) Primes c d a b = absurd (none_refused (groups_of q) d b a.0)
-one_refusal_of q (NotSub k) Rank c d a b = absurd (not_both_ranks (jahn_of q) d b.1 a.1)
+one_refusal_of q (NotSub k) Rank c d a b = absurd (not_both_ranks (jahns_of q) d b.1 a.1)
 one_refusal_of q (NotSub k) Shape c d a b = absurd (not_both_shapes q d b.2 a.2)
 one_refusal_of q (NotSub k) (NotSub l) c d a b =
     let same = one_not_sub q k l c d a.3 b.3 in (ap NotSub same.0, same.1)
 one_refusal_of q (NotSub k) TooLarge c d a b = absurd (b.3 k c a.3)
 one_refusal_of q TooLarge Primes c d a b = absurd (none_refused (groups_of q) d b a.0)
-one_refusal_of q TooLarge Rank c d a b = absurd (not_both_ranks (jahn_of q) d b.1 a.1)
+one_refusal_of q TooLarge Rank c d a b = absurd (not_both_ranks (jahns_of q) d b.1 a.1)
 one_refusal_of q TooLarge Shape c d a b = absurd (not_both_shapes q d b.2 a.2)
 one_refusal_of q TooLarge (NotSub l) c d a b = absurd (a.3 l d b.3)
-one_refusal_of q TooLarge TooLarge c d a b =
-    let same : a.5.0 ≡ b.5.0 = some_same a.5.0 b.5.0 (sym a.5.1 ∙ b.5.1) in
-    (refl, a.5.2 ∙ ap (λ j. j.column) same ∙ sym b.5.2)
+one_refusal_of q TooLarge TooLarge c d a b = (refl, one_first (JahnGrows q) (jahns_of q) c d a.4 b.4)
 
 -- ---- refusals of a line
-abbrev OfRequest : List ℕ → RefusalWord → ℕ → Type 0
-OfRequest line w c = (length line ≤ 1000) × (q : Request) × SpellsRequest line q × RefusesRequest q w c
+abbrev OfRequest : Format → List ℕ → RefusalWord → ℕ → Type 0
+OfRequest format line w c =
+    (length line ≤ longest_line format) × (q : Request) × SpellsRequest format line q × RefusesRequest q w c
 
-of_requests : (line : List ℕ) (v w : RefusalWord) (c d : ℕ) → OfRequest line v c → OfRequest line w d →
-    (v ≡ w) × (c ≡ d)
-of_requests line v w c d a b =
-    one_refusal_of b.1 v w c d
-    (subst (λ q. RefusesRequest q v c) (one_request_spelled line a.1 b.1 a.2 b.2) a.3) b.3
+module _ (format : Format) (line : List ℕ) where
+  of_requests : (v w : RefusalWord) (c d : ℕ) → OfRequest format line v c → OfRequest format line w d → (v ≡ w) × (c ≡ d)
+  of_requests v w c d a b =
+      one_refusal_of b.1 v w c d
+      (subst (λ q. RefusesRequest q v c) (one_request_spelled format line a.1 b.1 a.2 b.2) a.3) b.3
 
--- how a line is refused: as too long, as no request, or by a request
-data Kind (line : List ℕ) (w : RefusalWord) (c : ℕ) : Type 0 where
-  long : w ≡ Long → 1000 < length line → c ≡ 1001 → Kind line w c
-  none : w ≡ Syntax → Refuses line Syntax c → Kind line w c
-  by_request : OfRequest line w c → Kind line w c
+  -- how a line is refused: as too long, as no request, or by a request
+  data Kind (w : RefusalWord) (c : ℕ) : Type 0 where
+    long : w ≡ Long → longest_line format < length line → c ≡ longest_line format + 1 → Kind w c
+    none : w ≡ Syntax → Refuses format line Syntax c → Kind w c
+    by_request : OfRequest format line w c → Kind w c
 
-kind_of : (line : List ℕ) (w : RefusalWord) (c : ℕ) → Refuses line w c → Kind line w c
-kind_of line Long c a = long refl a.0 a.1
-kind_of line Syntax c a = none refl a
-kind_of line Primes c a = by_request a
-kind_of line Rank c a = by_request a
-kind_of line Shape c a = by_request a
-kind_of line (NotSub k) c a = by_request a
-kind_of line TooLarge c a = by_request a
+  kind_of : (w : RefusalWord) (c : ℕ) → Refuses format line w c → Kind w c
+  kind_of Long c a = long refl a.0 a.1
+  kind_of Syntax c a = none refl a
+  kind_of Primes c a = by_request a
+  kind_of Rank c a = by_request a
+  kind_of Shape c a = by_request a
+  kind_of (NotSub k) c a = by_request a
+  kind_of TooLarge c a = by_request a
 
-not_long : (n : ℕ) → 1000 < n → n ≤ 1000 → ⊥
-not_long n a b = omega arith
+  not_long : longest_line format < length line → length line ≤ longest_line format → ⊥
+  not_long a b = omega arith
 
-by_kinds : (line : List ℕ) (v w : RefusalWord) (c d : ℕ) → Kind line v c → Kind line w d → (v ≡ w) × (c ≡ d)
-by_kinds line v w c d (long a lt e) (long b gt f) = (a ∙ sym b, e ∙ sym f)
-by_kinds line v w c d (long a lt e) (none b s) = absurd (not_long (length line) lt s.0)
-by_kinds line v w c d (long a lt e) (by_request r) = absurd (not_long (length line) lt r.0)
-by_kinds line v w c d (none a s) (long b gt f) = absurd (not_long (length line) gt s.0)
-by_kinds line v w c d (none a s) (none b t) =
-    (a ∙ sym b, s.3 ∙ ap (λ n. 1 + n) (one_fault_place _ line s.1 t.1 s.2 t.2) ∙ sym t.3)
-by_kinds line v w c d (none a s) (by_request r) = absurd (s.2.none (r.1, r.2))
-by_kinds line v w c d (by_request r) (long b gt f) = absurd (not_long (length line) gt r.0)
-by_kinds line v w c d (by_request r) (none b t) = absurd (t.2.none (r.1, r.2))
-by_kinds line v w c d (by_request r) (by_request s) = of_requests line v w c d r s
+  by_kinds : (v w : RefusalWord) (c d : ℕ) → Kind v c → Kind w d → (v ≡ w) × (c ≡ d)
+  by_kinds v w c d (long a lt e) (long b gt f) = (a ∙ sym b, e ∙ sym f)
+  by_kinds v w c d (long a lt e) (none b s) = absurd (not_long lt s.0)
+  by_kinds v w c d (long a lt e) (by_request r) = absurd (not_long lt r.0)
+  by_kinds v w c d (none a s) (long b gt f) = absurd (not_long gt s.0)
+  by_kinds v w c d (none a s) (none b t) =
+      (a ∙ sym b, s.3 ∙ ap (λ n. 1 + n) (one_fault_place _ line s.1 t.1 s.2 t.2) ∙ sym t.3)
+  by_kinds v w c d (none a s) (by_request r) = absurd (s.2.none (r.1, r.2))
+  by_kinds v w c d (by_request r) (long b gt f) = absurd (not_long gt r.0)
+  by_kinds v w c d (by_request r) (none b t) = absurd (t.2.none (r.1, r.2))
+  by_kinds v w c d (by_request r) (by_request s) = of_requests v w c d r s
 
 pub one_refusal_lem : OneRefusal
-one_refusal_lem line v w c d a b = by_kinds line v w c d (kind_of line v c a) (kind_of line w d b)
+one_refusal_lem format line v w c d a b =
+    by_kinds format line v w c d (kind_of format line v c a) (kind_of format line w d b)

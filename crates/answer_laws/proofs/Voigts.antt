@@ -8,6 +8,7 @@ use Rattle.std.proofs.Common.{◌∙◌, subst}
 use Rattle.std.specs.Prelude.{map, codes, nat_eq, Contains}
 use Rattle.std.specs.List.{flat_map}
 use Rattle.std.specs.Fmt.{decimal}
+use Rattle.list_laws.proofs.Members.{each_held, each_from}
 use Rattle.number_laws.proofs.Limit.{one_fraction}
 use Rattle.tensor_defs.specs.declared.Weights.{Weights}
 use Rattle.tensor_defs.specs.Group.{InGroup}
@@ -26,7 +27,6 @@ use Rattle.text_defs.specs.AnswerTexts.{line_of, row_text, weights_word, has_ent
 use Rattle.text_defs.specs.GroupTexts.{group_text}
 use Rattle.text_defs.specs.JahnTexts.{jahn_text}
 use Rattle.answer_laws.proofs.Forms.{flat_map_same}
-use Rattle.answer_laws.proofs.Listings.{each_held, each_from}
 use Rattle.answer_laws.specs.Laws.{OneVoigt}
 
 -- ---- the six shapes

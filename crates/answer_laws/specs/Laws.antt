@@ -1,6 +1,6 @@
 -- Laws of answers, as the contracts of src/ cite them.
 --   OneListing      the group of a symbol has one listing in the order of operations
---   OneRefusal      at most one refusal applies to a line, at one column
+--   OneRefusal      at most one refusal applies to a line of a format, at one column
 --   HasOneAnswer    a request has one answer
 --   OneForm, OneGroup, OneVoigt, OneSame    a request for a form, for the elements of a group, for a Voigt table, or
 --                   whether two groups leave the same tensors, has one answer
@@ -8,8 +8,8 @@
 --                   the second symbol keeps the rules of symbols
 --   OnePairs        a request for pair classes has one answer, where both symbols keep the rules and the second
 --                   group is below the first
---   LineHasOneAnswer    a line has one answer at each number
---   OneAnswer       a line of a number has one answer
+--   LineHasOneAnswer    a line of a format has one answer at each number
+--   OneAnswer       a line of a format and a number has one answer
 --   OneOutput       an input has one output: the answers of its lines
 --   OneFormAnswer, OneGroupAnswer    a line that spells a request for a form, or for a group, has one answer
 use Rattle.std.specs.Prelude.{◌≡◌, ℕ, List}
@@ -19,6 +19,7 @@ use Rattle.tensor_defs.specs.Operation.{Operation}
 use Rattle.tensor_defs.specs.OperationOrder.{comes_before}
 use Rattle.tensor_defs.specs.Group.{InGroup, IsBelow}
 use Rattle.tensor_defs.specs.Symbols.{GroupSymbol, IsGroupSymbol}
+use Rattle.text_defs.specs.declared.Format.{Format}
 use Rattle.text_defs.specs.Answers.{AnswersRequest, IsAnswer}
 use Rattle.text_defs.specs.Lines.{AreAnswersOf}
 use Rattle.text_defs.specs.Refusals.{RefusalWord, Refuses}
@@ -32,14 +33,15 @@ OneListing =
 
 abbrev pub OneRefusal : Type 0
 OneRefusal =
-    (line : List ℕ) (v w : RefusalWord) (c d : ℕ) → Refuses line v c → Refuses line w d → (v ≡ w) × (c ≡ d)
+    (format : Format) (line : List ℕ) (v w : RefusalWord) (c d : ℕ) → Refuses format line v c → Refuses format line w d →
+    (v ≡ w) × (c ≡ d)
 
 -- a request has one answer
 abbrev pub HasOneAnswer : Request → Type 0
 HasOneAnswer q = (a b : List ℕ) → AnswersRequest q a → AnswersRequest q b → a ≡ b
 
 abbrev pub OneForm : Type 0
-OneForm = (g : GroupAt) (j : JahnAt) → HasOneAnswer (Form g j)
+OneForm = (g : GroupAt) (js : List JahnAt) → HasOneAnswer (Form g js)
 
 abbrev pub OneGroup : Type 0
 OneGroup = (g : GroupAt) → HasOneAnswer (Group g)
@@ -54,7 +56,7 @@ abbrev pub OneStates : Type 0
 OneStates = (g f : GroupAt) → IsGroupSymbol f.symbol → HasOneAnswer (States g f)
 
 abbrev pub OneDiffer : Type 0
-OneDiffer = (g f : GroupAt) (j : JahnAt) → IsGroupSymbol f.symbol → HasOneAnswer (Differ g f j)
+OneDiffer = (g f : GroupAt) (js : List JahnAt) → IsGroupSymbol f.symbol → HasOneAnswer (Differ g f js)
 
 abbrev pub OnePairs : Type 0
 OnePairs =
@@ -62,17 +64,23 @@ OnePairs =
     IsBelow (InGroup f.symbol) (InGroup g.symbol) → HasOneAnswer (Pairs g f)
 
 -- a line has one answer
-abbrev pub LineHasOneAnswer : List ℕ → Type 0
-LineHasOneAnswer line = (number : ℕ) (a b : List ℕ) → IsAnswer number line a → IsAnswer number line b → a ≡ b
+abbrev pub LineHasOneAnswer : Format → List ℕ → Type 0
+LineHasOneAnswer format line =
+    (number : ℕ) (a b : List ℕ) → IsAnswer format number line a → IsAnswer format number line b → a ≡ b
 
 abbrev pub OneFormAnswer : Type 0
-OneFormAnswer = (line : List ℕ) (g : GroupAt) (j : JahnAt) → SpellsRequest line (Form g j) → LineHasOneAnswer line
+OneFormAnswer =
+    (format : Format) (line : List ℕ) (g : GroupAt) (js : List JahnAt) → SpellsRequest format line (Form g js) →
+    LineHasOneAnswer format line
 
 abbrev pub OneGroupAnswer : Type 0
-OneGroupAnswer = (line : List ℕ) (g : GroupAt) → SpellsRequest line (Group g) → LineHasOneAnswer line
+OneGroupAnswer =
+    (format : Format) (line : List ℕ) (g : GroupAt) → SpellsRequest format line (Group g) → LineHasOneAnswer format line
 
 abbrev pub OneAnswer : Type 0
-OneAnswer = (number : ℕ) (line a b : List ℕ) → IsAnswer number line a → IsAnswer number line b → a ≡ b
+OneAnswer =
+    (format : Format) (number : ℕ) (line a b : List ℕ) → IsAnswer format number line a → IsAnswer format number line b →
+    a ≡ b
 
 abbrev pub OneOutput : Type 0
-OneOutput = (input a b : List ℕ) → AreAnswersOf IsAnswer input a → AreAnswersOf IsAnswer input b → a ≡ b
+OneOutput = (input a b : List ℕ) → AreAnswersOf input a → AreAnswersOf input b → a ≡ b

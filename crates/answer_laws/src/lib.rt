@@ -8,12 +8,12 @@ pub fn one_listing()
     ensures { OneListing }
 {}
 
-/// At most one refusal applies to a line.
+/// At most one refusal applies to a line of a format.
 pub fn one_refusal()
     ensures { OneRefusal }
 {}
 
-/// A request for a form has one answer.
+/// A request for forms has one answer.
 pub fn one_form()
     ensures { OneForm }
 {}
@@ -48,7 +48,7 @@ pub fn one_pairs()
     ensures { OnePairs }
 {}
 
-/// A line that spells a request for a form has one answer.
+/// A line that spells a request for forms has one answer.
 pub fn one_form_answer()
     ensures { OneFormAnswer }
 {}
@@ -58,7 +58,7 @@ pub fn one_group_answer()
     ensures { OneGroupAnswer }
 {}
 
-/// A line has one answer.
+/// A line of a format and a number has one answer.
 pub fn one_answer()
     ensures { OneAnswer }
 {}

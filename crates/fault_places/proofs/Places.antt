@@ -1,4 +1,10 @@
 -- Where a text stops to begin a text of a language, byte by byte.
+--   After    text begins nothing that goes on with the byte x
+--   StopsAt    the first m bytes of the word begin a text, and no more of it does
+--   same_stop_near    A and B have the same texts among those that begin with the word's first byte
+--   Through    behind its first n bytes the word goes on as a text of Rest
+--   Through-step, Through-stuck, Through-short, Through-start, Through-skip, Through-near, Through-first
+--       one byte more, where the word goes on as a text of A behind its first n bytes
 use Rattle.std.proofs.Common.{◌≡◌, ℕ, zero, suc, ◌+◌, ◌<◌, ◌≤◌, List, [], ◌∷◌, ◌++◌, length, take, drop, get_or, refl, sym, subst, ◌∙◌, inl, inr, arith}
 use Rattle.std.proofs.lemmas.Bool.{cases_lt}
 use Rattle.std.proofs.lemmas.List.{drop_more}

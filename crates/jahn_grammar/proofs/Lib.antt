@@ -1,9 +1,8 @@
 pub mod Trees
 pub mod Atoms
 pub mod AtomReads
-pub mod FactorTexts
-pub mod FactorReads
-pub mod TreeReads
 pub mod Marks
+pub mod FactorTexts
 pub mod Scans
+pub mod TreeReads
 pub mod Written

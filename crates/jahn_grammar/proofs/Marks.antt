@@ -1,32 +1,26 @@
--- The marks, and what stands behind them.
-use Rattle.std.proofs.Common.{◌≡◌, ◌≢◌, ◌⊎◌, ℕ, Bool, true, false, List, [], ◌∷◌, ◌++◌, refl, sym, ap, subst, ◌∙◌, arith, inl, inr, append_assoc}
+-- Marks, and the factors behind them.
+--   split           of two fronts of a text one is a front of the other
+--   mark_of         what stands behind some marks of marks is a mark
+--   marked_factor   behind marks that go no further stands a factor
+--   behind_factor, behind_one    the same at the front of a symbol's text, where 1 may stand too
+use Rattle.std.proofs.Common.{◌≡◌, ◌≢◌, ◌⊎◌, ℕ, ◌≤◌, Bool, true, false, List, [], ◌∷◌, ◌++◌, refl, sym, ap, subst}
+use Rattle.std.proofs.Common.{◌∙◌, arith, inl, inr, append_assoc, lit≤}
 use Rattle.std.specs.Prelude.{codes}
+use Rattle.tensor_defs.specs.Tensor.{Marks}
 use Rattle.tensor_defs.specs.Jahn.{Atom, Factor, AreFactors, Symmetric, Antisymmetric, V, Bracketed}
-use Rattle.text_defs.specs.JahnTexts.{atom_text, factors_text, AreMarks, IsBody, IsJahnText}
-use Rattle.jahn_grammar.specs.Views.{IsMark}
-use Rattle.jahn_grammar.proofs.FactorTexts.{split}
+use Rattle.text_defs.specs.JahnTexts.{atom_text, power_text, factor_text, AreMarks, SpellsFactors, SpellsBody, IsJahnText}
+use Rattle.jahn_grammar.specs.Views.{IsMark, IsDigit, AreFactorsText, HasFactor}
 
-heads : {x y : ℕ} {xs ys : List ℕ} → x ∷ xs ≡ y ∷ ys → x ≡ y
+pub heads : {x y : ℕ} {xs ys : List ℕ} → x ∷ xs ≡ y ∷ ys → x ≡ y
 heads e = cc
 
-tails : {x y : ℕ} {xs ys : List ℕ} → x ∷ xs ≡ y ∷ ys → xs ≡ ys
+pub tails : {x y : ℕ} {xs ys : List ℕ} → x ∷ xs ≡ y ∷ ys → xs ≡ ys
 tails e = cc
 
-none_some : {y : ℕ} {ys : List ℕ} → [] ≡ y ∷ ys → ⊥
+pub none_some : {y : ℕ} {ys : List ℕ} → [] ≡ y ∷ ys → ⊥
 none_some e = cc
 
-abbrev pub AllMarks : List ℕ → Type 0
-AllMarks [] = Unit {0}
-AllMarks (b ∷ bs) = IsMark b × AllMarks bs
-
-pub marks_all : (u : List ℕ) (a m : Bool) → AreMarks u a m → AllMarks u
-marks_all u false false e = rw e tt
-marks_all u true false e = rw e (inr refl, tt)
-marks_all u false true e = rw e (inl refl, tt)
-marks_all u true true (inl e) = rw e (inl refl, (inr refl, tt))
-marks_all u true true (inr e) = rw e (inr refl, (inl refl, tt))
-
-append_none : (l : List ℕ) → l ++ [] ≡ l
+pub append_none : (l : List ℕ) → l ++ [] ≡ l
 append_none [] = refl
 append_none (x ∷ l) = ap (λ (k : List ℕ). x ∷ k) (append_none l)
 
@@ -34,70 +28,164 @@ same_front : (u x y : List ℕ) → u ++ x ≡ u ++ y → x ≡ y
 same_front [] x y e = e
 same_front (b ∷ u) x y e = same_front u x y (tails e)
 
+pub split : (u more x r : List ℕ) → u ++ more ≡ x ++ r → ((t : List ℕ) × (x ≡ u ++ t)) ⊎ ((t : List ℕ) × (u ≡ x ++ t))
+split [] more x r e = inl (x, refl)
+split (b ∷ u) more [] r e = inr (b ∷ u, refl)
+split (b ∷ u) more (c ∷ x) r e =
+    elim (split u more x r (tails e)) [
+      | inl h ↦ inl (h.0, ap (λ (k : ℕ). k ∷ x) (sym (heads e)) ∙ ap (λ (l : List ℕ). b ∷ l) h.1)
+      | inr h ↦ inr (h.0, ap (λ (k : ℕ). k ∷ u) (heads e) ∙ ap (λ (l : List ℕ). c ∷ l) h.1)
+    ]
+
+-- ---- marks
+abbrev AllMarks : List ℕ → Type 0
+AllMarks [] = Unit {0}
+AllMarks (b ∷ bs) = IsMark b × AllMarks bs
+
+marks_all : (u : List ℕ) (a m : Bool) → AreMarks u a m → AllMarks u
+marks_all u false false e = rw e tt
+marks_all u true false e = rw e (inr refl, tt)
+marks_all u false true e = rw e (inl refl, tt)
+marks_all u true true (inl e) = rw e (inl refl, (inr refl, tt))
+marks_all u true true (inr e) = rw e (inr refl, (inl refl, tt))
+
 mark_of : (m : List ℕ) (b : ℕ) (t : List ℕ) → AllMarks (m ++ (b ∷ t)) → IsMark b
 mark_of [] b t h = h.0
 mark_of (x ∷ m) b t h = mark_of m b t h.1
 
--- what a body begins with
-pub factors_unmarked : (f : Factor) (fs : List Factor) (b : ℕ) (z : List ℕ) → factors_text (f ∷ fs) ≡ b ∷ z → (IsMark b → ⊥) × (b ≢ 49)
-factors_unmarked f fs b z e = by_atom f.atom _ _ e
+-- ---- what a factor begins with
+record OtherByte (b : ℕ) : Type 0 where
+  no_mark : IsMark b → ⊥
+  no_one : b ≢ 49
+  no_digit : IsDigit b → ⊥
+
+other : (x b : ℕ) → 55 ≤ x → (x ≡ 97 → ⊥) → (x ≡ 101 → ⊥) → x ≡ b → OtherByte b
+other x b far n97 n101 e = record {
+  no_mark = λ h. elim h [ inl i ↦ n97 (e ∙ i) | inr i ↦ n101 (e ∙ i) ];
+  no_one = λ i. omega arith;
+  no_digit = λ d. omega (arith, d.1);
+}
+
+factor_first : (f : Factor) (r z : List ℕ) (b : ℕ) → factor_text f ++ r ≡ b ∷ z → OtherByte b
+factor_first f r z b e = by_atom f.atom (power_text f.power) r e
   where
-    other : (x : ℕ) → (x ≡ 97 → ⊥) → (x ≡ 101 → ⊥) → (x ≡ 49 → ⊥) → x ≡ b → (IsMark b → ⊥) × (b ≢ 49)
-    other x n97 n101 n49 e = (λ h. elim h [ inl i ↦ n97 (e ∙ i) | inr i ↦ n101 (e ∙ i) ], λ i. n49 (e ∙ i))
+    by_atom : (a : Atom) (p r : List ℕ) → (atom_text a ++ p) ++ r ≡ b ∷ z → OtherByte b
+    by_atom V p r e = other 86 b (lit≤ tt) (λ i. omega arith) (λ i. omega arith) (heads e)
+    by_atom (Bracketed Symmetric a q) p r e = other 91 b (lit≤ tt) (λ i. omega arith) (λ i. omega arith) (heads e)
+    by_atom (Bracketed Antisymmetric a q) p r e = other 123 b (lit≤ tt) (λ i. omega arith) (λ i. omega arith) (heads e)
 
-    by_atom : (a : Atom) (r s : List ℕ) → (atom_text a ++ r) ++ s ≡ b ∷ z → (IsMark b → ⊥) × (b ≢ 49)
-    by_atom V r s e = other 86 (λ i. omega arith) (λ i. omega arith) (λ i. omega arith) (heads e)
-    by_atom (Bracketed Symmetric a p) r s e = other 91 (λ i. omega arith) (λ i. omega arith) (λ i. omega arith) (heads e)
-    by_atom (Bracketed Antisymmetric a p) r s e = other 123 (λ i. omega arith) (λ i. omega arith) (λ i. omega arith) (heads e)
-
--- A text that begins with the marks u, with a byte behind them that is no further mark, has the marks u.
-abbrev pub Behind : List ℕ → List ℕ → Type 0
-Behind u z = IsJahnText (u ++ z)
-
--- the rest of a text behind its marks: 1, or factors
-abbrev pub Rest : List ℕ → Type 0
-Rest z = (z ≡ codes "1") ⊎ ((f : Factor) × (fs : List Factor) × AreFactors (f ∷ fs) × (z ≡ factors_text (f ∷ fs)))
-
-pub body_rest : (marks : List ℕ) (fs : List Factor) (w : List ℕ) → AreFactors fs → IsBody marks fs w → (y : List ℕ) × (w ≡ marks ++ y) × ((y ≡ []) ⊎ Rest y)
-body_rest marks [] w are (inl b) = ([], b.1 ∙ sym (append_none marks), inl refl)
-body_rest marks [] w are (inr b) = (codes "1", b, inr (inl refl))
-body_rest marks (f ∷ fs) w are b = (factors_text (f ∷ fs), b, inr (inr (f, fs, are, refl)))
-
-rest_unmarked : (y : List ℕ) → (y ≡ []) ⊎ Rest y → (b : ℕ) (z : List ℕ) → y ≡ b ∷ z → IsMark b → ⊥
-rest_unmarked y (inl e) b z is h = none_some (sym e ∙ is)
-rest_unmarked y (inr (inl e)) b z is h = not_one b (heads (sym e ∙ is)) h
+pub factor_some : (f : Factor) (r : List ℕ) → [] ≡ factor_text f ++ r → ⊥
+factor_some f r e = by_atom f.atom (power_text f.power) r e
   where
-    not_one : (b : ℕ) → 49 ≡ b → IsMark b → ⊥
-    not_one b e (inl f) = omega arith
-    not_one b e (inr f) = omega arith
-rest_unmarked y (inr (inr (f, fs, are, e))) b z is h = (factors_unmarked f fs b z (sym e ∙ is)).0 h
+    by_atom : (a : Atom) (p r : List ℕ) → [] ≡ (atom_text a ++ p) ++ r → ⊥
+    by_atom V p r e = none_some e
+    by_atom (Bracketed k a q) p r e = none_some e
 
+pub behind_some : (m : List ℕ) (b : ℕ) (z : List ℕ) → [] ≡ m ++ (b ∷ z) → ⊥
+behind_some [] b z e = none_some e
+behind_some (x ∷ m) b z e = none_some e
+
+pub marked_some : (m : List ℕ) (f : Factor) (r : List ℕ) → [] ≡ m ++ (factor_text f ++ r) → ⊥
+marked_some [] f r e = factor_some f r e
+marked_some (x ∷ m) f r e = none_some e
+
+-- no factors begin with a digit
+pub digit_begins_none : (b : ℕ) (z : List ℕ) → IsDigit b → AreFactorsText (b ∷ z) → ⊥
+digit_begins_none b z d ([], m, are, h) = none_some (sym h.0)
+digit_begins_none b z d (f ∷ fs, m, are, h) = by_marks h.0 (marks_all h.0 h.1.axial h.1.magnetic h.2) h.6
+  where
+    no_mark : (x : ℕ) → IsMark x → b ≡ x → ⊥
+    no_mark x (inl i) e = omega (arith, d.1)
+    no_mark x (inr i) e = omega (arith, d.1)
+
+    by_marks : (u : List ℕ) → AllMarks u → b ∷ z ≡ u ++ (factor_text f ++ h.3) → ⊥
+    by_marks [] all e = (factor_first f h.3 z b (sym e)).no_digit d
+    by_marks (x ∷ u) all e = no_mark x all.0 (heads e)
+
+-- marks alone are no factors
+pub marks_alone : (u : List ℕ) (a g : Bool) → AreMarks u a g → AreFactorsText u → u ≡ []
+marks_alone u a g am ([], m, af, h) = h.0
+marks_alone u a g am (f ∷ fs, m, af, h) =
+    let P : List ℕ → Type 0 = AllMarks in
+    absurd (by_head (factor_text f ++ h.3) refl (subst P h.6 (marks_all u a g am)))
+  where
+    by_head : (y : List ℕ) → factor_text f ++ h.3 ≡ y → AllMarks (h.0 ++ y) → ⊥
+    by_head [] e all = factor_some f h.3 (sym e)
+    by_head (b ∷ t) e all = (factor_first f h.3 t b e).no_mark (mark_of h.0 b t all)
+
+-- ---- behind marks that go no further
 module _ (u : List ℕ) (ax mg : Bool) (are : AreMarks u ax mg) (c : ℕ) (next : (more : List ℕ) (a m : Bool) → AreMarks (u ++ (c ∷ more)) a m → ⊥) where
-  pub behind_rest : (z : List ℕ) → Behind u (c ∷ z) → Rest (c ∷ z)
-  behind_rest z (j, h) =
-      let b = body_rest h.marks j.factors (u ++ (c ∷ z)) h.are_factors h.body in
-      elim (split u (c ∷ z) h.marks b.0 b.1) [
-        | inl s ↦ longer s.0 h.marks j.marks.axial j.marks.magnetic h.are_marks b.0 b.1 b.2 s.1
-        | inr s ↦ shorter s.0 h.marks b.0 b.1 b.2 s.1
+  -- a text with the marks u and the byte c behind them has just these marks
+  same_marks : (z m y : List ℕ) (a g : Bool) → AreMarks m a g → ((b : ℕ) (t : List ℕ) → y ≡ b ∷ t → IsMark b → ⊥) →
+      u ++ (c ∷ z) ≡ m ++ y → c ∷ z ≡ y
+  same_marks z m y a g am unmarked e =
+      elim (split u (c ∷ z) m y e) [
+        | inl s ↦ longer s.0 s.1
+        | inr s ↦ shorter s.0 s.1
       ]
     where
-      rest_of : (y : List ℕ) → c ∷ z ≡ y → (y ≡ []) ⊎ Rest y → Rest (c ∷ z)
-      rest_of y e (inl n) = absurd (none_some (sym n ∙ sym e))
-      rest_of y e (inr r) = let P : List ℕ → Type 0 = Rest in subst P (sym e) r
-
-      longer : (t m : List ℕ) (a g : Bool) → AreMarks m a g → (y : List ℕ) → u ++ (c ∷ z) ≡ m ++ y → (y ≡ []) ⊎ Rest y → m ≡ u ++ t → Rest (c ∷ z)
-      longer [] m a g am y e r is = rest_of y (same_front u (c ∷ z) y (e ∙ ap (λ (l : List ℕ). l ++ y) (is ∙ append_none u))) r
-      longer (b ∷ t) m a g am y e r is =
+      longer : (t : List ℕ) → m ≡ u ++ t → c ∷ z ≡ y
+      longer [] is = same_front u (c ∷ z) y (e ∙ ap (λ (l : List ℕ). l ++ y) (is ∙ append_none u))
+      longer (b ∷ t) is =
           let both : u ++ (c ∷ z) ≡ u ++ (b ∷ (t ++ y)) = e ∙ ap (λ (l : List ℕ). l ++ y) is ∙ append_assoc u (b ∷ t) y in
           let same : c ≡ b = heads (same_front u (c ∷ z) (b ∷ (t ++ y)) both) in
-          absurd (next t a g (let P : List ℕ → Type 0 = λ (l : List ℕ). AreMarks l a g in subst P (is ∙ ap (λ (k : ℕ). u ++ (k ∷ t)) (sym same)) am))
+          let P : List ℕ → Type 0 = λ (l : List ℕ). AreMarks l a g in
+          absurd (next t a g (subst P (is ∙ ap (λ (k : ℕ). u ++ (k ∷ t)) (sym same)) am))
 
-      shorter : (t m y : List ℕ) → u ++ (c ∷ z) ≡ m ++ y → (y ≡ []) ⊎ Rest y → u ≡ m ++ t → Rest (c ∷ z)
-      shorter [] m y e r is = rest_of y (same_front m (c ∷ z) y (ap (λ (l : List ℕ). l ++ (c ∷ z)) (sym (is ∙ append_none m)) ∙ e)) r
-      shorter (b ∷ t) m y e r is =
+      shorter : (t : List ℕ) → u ≡ m ++ t → c ∷ z ≡ y
+      shorter [] is = same_front m (c ∷ z) y (ap (λ (l : List ℕ). l ++ (c ∷ z)) (sym (is ∙ append_none m)) ∙ e)
+      shorter (b ∷ t) is =
           let behind : y ≡ b ∷ (t ++ (c ∷ z)) = same_front m y (b ∷ (t ++ (c ∷ z))) (sym e ∙ ap (λ (l : List ℕ). l ++ (c ∷ z)) is ∙ append_assoc m (b ∷ t) (c ∷ z)) in
-          absurd (rest_unmarked y r b (t ++ (c ∷ z)) behind (mark_of m b t (let P : List ℕ → Type 0 = AllMarks in subst P is (marks_all u ax mg are))))
+          let P : List ℕ → Type 0 = AllMarks in
+          absurd (unmarked b (t ++ (c ∷ z)) behind (mark_of m b t (subst P is (marks_all u ax mg are))))
 
-  pub rest_behind : (z : List ℕ) → Rest (c ∷ z) → Behind u (c ∷ z)
-  rest_behind z (inl e) = (record { marks = record { axial = ax; magnetic = mg }; factors = [] }, record { are_factors = tt; marks = u; are_marks = are; body = inr (ap (λ (l : List ℕ). u ++ l) e) })
-  rest_behind z (inr (f, fs, h, e)) = (record { marks = record { axial = ax; magnetic = mg }; factors = f ∷ fs }, record { are_factors = h; marks = u; are_marks = are; body = ap (λ (l : List ℕ). u ++ l) e })
+  spelled_factor : (z : List ℕ) (f : Factor) (fs : List Factor) (m : Marks) → AreFactors (f ∷ fs) →
+      SpellsFactors (u ++ (c ∷ z)) (f ∷ fs) m → HasFactor (c ∷ z)
+  spelled_factor z f fs m af h = (
+    f,
+    af.0,
+    h.3,
+    same_marks z h.0 (factor_text f ++ h.3) h.1.axial h.1.magnetic h.2 (λ b t e. (factor_first f h.3 t b e).no_mark) h.6,
+    (fs, h.4, af.1, h.5),
+  )
+
+  pub marked_factor : (z : List ℕ) → AreFactorsText (u ++ (c ∷ z)) → HasFactor (c ∷ z)
+  marked_factor z ([], m, af, h) = absurd (behind_some u c z (sym h.0))
+  marked_factor z (f ∷ fs, m, af, h) = spelled_factor z f fs m af h
+
+  -- a text of a symbol: 1 or a factor
+  behind : (z : List ℕ) → IsJahnText (u ++ (c ∷ z)) → (c ∷ z ≡ codes "1") ⊎ HasFactor (c ∷ z)
+  behind z (j, h) = by_body j.factors j.marks h.are_factors h.body
+    where
+      not_one : (b : ℕ) (t : List ℕ) → codes "1" ≡ b ∷ t → IsMark b → ⊥
+      not_one b t e (inl i) = let k : 49 ≡ b = heads e in omega arith
+      not_one b t e (inr i) = let k : 49 ≡ b = heads e in omega arith
+
+      by_body : (fs : List Factor) (m : Marks) → AreFactors fs → SpellsBody (u ++ (c ∷ z)) fs m →
+          (c ∷ z ≡ codes "1") ⊎ HasFactor (c ∷ z)
+      by_body [] m af (k, is, inl e) =
+          let P : List ℕ → Type 0 = λ (l : List ℕ). AreMarks l m.axial m.magnetic in
+          absurd (next z m.axial m.magnetic (subst P (sym e.1) is))
+      by_body [] m af (k, is, inr e) = inl (same_marks z k (codes "1") m.axial m.magnetic is not_one e)
+      by_body (f ∷ fs) m af h = inr (spelled_factor z f fs m af h)
+
+  pub behind_factor : (z : List ℕ) → c ≢ 49 → IsJahnText (u ++ (c ∷ z)) → HasFactor (c ∷ z)
+  behind_factor z ne t = elim (behind z t) [ inl e ↦ absurd (ne (heads e)) | inr h ↦ h ]
+
+  pub behind_one : (z : List ℕ) → c ≡ 49 → IsJahnText (u ++ (c ∷ z)) → z ≡ []
+  behind_one z one t = elim (behind z t) [ inl e ↦ tails e | inr h ↦ absurd ((factor_first h.0 h.2 z c (sym h.3)).no_one one) ]
+
+pub factor_behind : (u : List ℕ) (own : Marks) → AreMarks u own.axial own.magnetic → (z : List ℕ) → HasFactor z →
+    AreFactorsText (u ++ z)
+factor_behind u own are z (f, is, rest, e, (fs, m, af, h)) =
+    (f ∷ fs, record { axial = _; magnetic = _ }, (is, af), (u, own, are, rest, m, h, ap (λ (l : List ℕ). u ++ l) e, refl))
+
+pub symbol_behind : (u : List ℕ) (own : Marks) → AreMarks u own.axial own.magnetic → (z : List ℕ) → HasFactor z →
+    IsJahnText (u ++ z)
+symbol_behind u own are z (f, is, rest, e, (fs, m, af, h)) = (
+  record { marks = record { axial = _; magnetic = _ }; factors = f ∷ fs },
+  record {
+    are_factors = (is, af);
+    body = (u, own, are, rest, m, h, ap (λ (l : List ℕ). u ++ l) e, refl);
+  },
+)

@@ -1,33 +1,38 @@
 -- The scan of a word, factor by factor.
-use Rattle.std.proofs.Common.{◌≡◌, ◌≢◌, ℕ, zero, suc, ◌+◌, ◌*◌, ◌-◌, ◌<◌, ◌≤◌, Bool, false, List, [], ◌∷◌, ◌++◌, length, get_or, drop, min, refl, sym, ap, subst, ◌∙◌, arith, inl, inr, append_assoc, lit≤}
+--   factors_snoc    one factor more behind factors, with its marks
+--   Scanned         what is read up to the end of a factor
+--   Ready           what is read up to a factor, behind its marks
+--   Scanned-end     at the word's end a symbol is spelled
+use Rattle.std.proofs.Common.{◌≡◌, ◌≢◌, ℕ, zero, suc, ◌+◌, ◌*◌, ◌<◌, ◌≤◌, Bool, true, false, List, [], ◌∷◌, ◌++◌, length, get_or}
+use Rattle.std.proofs.Common.{drop, min, refl, sym, ap, subst, ◌∙◌, arith, inl, inr, append_assoc, lit≤}
 use Rattle.std.specs.Prelude.{codes}
 use Rattle.std.proofs.lemmas.List.{drop_more, length-drop, length-append}
+use Rattle.std.proofs.lemmas.Bool.{cases_lt}
 use Rattle.std.proofs.Math.ListN.{drop_of_length-le}
+use mathlib.Core.Bool.{xor}
 use Rattle.text_defs.specs.Languages.{IsFaulty}
-use Rattle.fault_places.proofs.Places.{Through, Through-step, Through-stuck, Through-start, Through-skip, Through-first, faulty}
+use Rattle.fault_places.proofs.Places.{Through, Through-step, Through-stuck, Through-start, Through-skip, Through-first}
+use Rattle.fault_places.proofs.Places.{Through-near, Through-faulty, faulty}
+use Rattle.tensor_defs.specs.Tensor.{Marks}
 use Rattle.tensor_defs.specs.Jahn.{Atom, Factor, JahnSymbol, IsFactor, AreFactors, atom_rank, factors_rank, V, Bracketed}
-use Rattle.text_defs.specs.JahnTexts.{atom_text, power_text, factor_text, factors_text, AreMarks, IsBody, SpellsJahn, IsJahnText}
-use Rattle.jahn_grammar.specs.Views.{AtomIs, HasAtom, IsDigit, MarksAre, AreFactorsText}
-use Rattle.jahn_grammar.proofs.FactorTexts.{AfterAtom, digit_text, atom_read, power_read, no_power, atom_wrong}
-use Rattle.jahn_grammar.proofs.Marks.{Behind, Rest, behind_rest, rest_behind, factors_unmarked}
-use Rattle.jahn_grammar.proofs.Atoms.{capped}
+use Rattle.text_defs.specs.JahnTexts.{atom_text, power_text, factor_text, AreMarks, SpellsFactors, SpellsBody, SpellsJahn, IsJahnText}
+use Rattle.text_defs.specs.JahnTexts.{no_marks, together}
+use Rattle.jahn_grammar.specs.Views.{HasAtom, HasFactor, IsDigit, MarksAre, AreFactorsText, TakesFactor, FactorFrom}
+use Rattle.jahn_grammar.proofs.FactorTexts.{factor_out, factors_wrong}
+use Rattle.jahn_grammar.proofs.Marks.{heads, none_some, append_none, behind_some, marked_some, marked_factor}
+use Rattle.jahn_grammar.proofs.Marks.{marks_alone, behind_factor, behind_one, factor_behind, symbol_behind}
 
-pub record Scanned (word : List ℕ) (at rank : ℕ) : Type 0 where
-  pub through : Through IsJahnText AreFactorsText word at
-  pub axial : Bool
-  pub magnetic : Bool
-  pub marks : List ℕ
-  pub are_marks : AreMarks marks axial magnetic
-  pub factors : List Factor
-  pub are_factors : AreFactors factors
-  pub text : word ≡ marks ++ (factors_text factors ++ drop at word)
-  pub rank_is : rank ≡ min (factors_rank factors) 7
-  pub goes_on : factors ≡ [] → at < length word
-
+-- ---- the front of a word
 module _ (word : List ℕ) (front : ℕ) (h : MarksAre word front) where
-  behind : Through IsJahnText (Behind h.marks) word front
+  abbrev own : Marks
+  own = record { axial = h.axial; magnetic = h.magnetic }
+
+  abbrev Behind : List ℕ → Type 0
+  Behind z = IsJahnText (h.marks ++ z)
+
+  behind : Through IsJahnText Behind word front
   behind =
-      let P : ℕ → Type 0 = λ (k : ℕ). Through IsJahnText (Behind h.marks) word k in
+      let P : ℕ → Type 0 = λ (k : ℕ). Through IsJahnText Behind word k in
       subst P (none_more (length h.marks) ∙ h.size) (Through-skip IsJahnText h.marks IsJahnText word 0 (Through-start IsJahnText IsJahnText word (λ z t. t) (λ z t. t)) (drop front word) h.text)
     where
       none_more : (n : ℕ) → 0 + n ≡ n
@@ -35,106 +40,107 @@ module _ (word : List ℕ) (front : ℕ) (h : MarksAre word front) where
 
   -- the symbol with these marks and no factor
   abbrev pub bare : JahnSymbol
-  bare = record { marks = record { axial = h.axial; magnetic = h.magnetic }; factors = [] }
+  bare = record { marks = own; factors = [] }
 
-  one : (z : List ℕ) → z ≡ codes "1" → Behind h.marks z
-  one z e = (record { marks = record { axial = h.axial; magnetic = h.magnetic }; factors = [] }, record { are_factors = tt; marks = h.marks; are_marks = h.are; body = inr (ap (λ (l : List ℕ). h.marks ++ l) e) })
+  one : (z : List ℕ) → z ≡ codes "1" → Behind z
+  one z e = (bare, record { are_factors = tt; body = (h.marks, h.are, inr (ap (λ (l : List ℕ). h.marks ++ l) e)) })
 
   module _ (lt : front < length word) where
     here : drop front word ≡ get_or word front 0 ∷ drop (front + 1) word
     here = drop_more word front 0 lt
 
-    pub Scanned-start : get_or word front 0 ≢ 49 → Scanned word front 0
-    Scanned-start no_one = record {
-      through = Through-first IsJahnText (Behind h.marks) AreFactorsText word front behind (get_or word front 0) (drop (front + 1) word) here (λ z t. factors_of z (behind_rest h.marks h.axial h.magnetic h.are (get_or word front 0) (h.next _ _ here) z t)) (λ z g. rest_behind h.marks h.axial h.magnetic h.are (get_or word front 0) (h.next _ _ here) z (rest_of z g)) (codes "1", one (codes "1") refl);
-      axial = h.axial;
-      magnetic = h.magnetic;
-      marks = h.marks;
-      are_marks = h.are;
-      factors = [];
-      are_factors = tt;
-      text = h.text;
-      rank_is = refl;
-      goes_on = λ _. lt;
-    }
-      where
-        factors_of : (z : List ℕ) → Rest (get_or word front 0 ∷ z) → AreFactorsText (get_or word front 0 ∷ z)
-        factors_of z (inl e) = absurd (no_one (first e))
-          where
-            first : {x : ℕ} {xs : List ℕ} → x ∷ xs ≡ codes "1" → x ≡ 49
-            first e = cc
-        factors_of z (inr (f, fs, are, e)) = (f ∷ fs, are, e)
-
-        rest_of : (z : List ℕ) → AreFactorsText (get_or word front 0 ∷ z) → Rest (get_or word front 0 ∷ z)
-        rest_of z ([], are, e) = absurd (some_none e)
-          where
-            some_none : {x : ℕ} {xs : List ℕ} → x ∷ xs ≡ [] → ⊥
-            some_none e = cc
-        rest_of z (f ∷ fs, are, e) = inr (f, fs, are, e)
+    pub first_ready : get_or word front 0 ≢ 49 → Through IsJahnText HasFactor word front
+    first_ready no_one =
+        Through-first IsJahnText Behind HasFactor word front behind (get_or word front 0) (drop (front + 1) word) here
+        (λ z t. behind_factor h.marks h.axial h.magnetic h.are (get_or word front 0) (h.next _ _ here) z no_one t)
+        (λ z g. symbol_behind h.marks own h.are (get_or word front 0 ∷ z) g) (codes "1", one (codes "1") refl)
 
     pub one_wrong : get_or word front 0 ≡ 49 → front + 1 < length word → IsFaulty IsJahnText word (front + 1)
     one_wrong is more =
         Through-stuck IsJahnText (λ z. z ≡ []) word (front + 1)
-        (Through-step IsJahnText (Behind h.marks) word front behind (λ z. z ≡ []) lt
-        (λ z t. only_one (get_or word front 0) is z (behind_rest h.marks h.axial h.magnetic h.are (get_or word front 0) (h.next _ _ here) z t))
+        (Through-step IsJahnText Behind word front behind (λ z. z ≡ []) lt
+        (λ z t. behind_one h.marks h.axial h.magnetic h.are (get_or word front 0) (h.next _ _ here) z is t)
         (λ z e. one (get_or word front 0 ∷ z) (ap (λ (b : ℕ). b ∷ z) is ∙ ap (λ (l : List ℕ). 49 ∷ l) e)))
-        more ([], refl) (λ z e. some_none e)
-      where
-        some_none : {x : ℕ} {xs : List ℕ} → x ∷ xs ≡ [] → ⊥
-        some_none e = cc
-
-        only_one : (b : ℕ) → b ≡ 49 → (z : List ℕ) → Rest (b ∷ z) → z ≡ []
-        only_one b is z (inl e) = cc
-        only_one b is z (inr (f, fs, are, e)) = absurd ((factors_unmarked f fs b z (sym e)).1 is)
+        more ([], refl) (λ z e. none_some (sym e))
 
     pub one_body : get_or word front 0 ≡ 49 → front + 1 ≡ length word → SpellsJahn word bare
-    one_body is all = record { are_factors = tt; marks = h.marks; are_marks = h.are; body = inr (h.text ∙ ap (λ (l : List ℕ). h.marks ++ l) (here ∙ ap (λ (b : ℕ). b ∷ drop (front + 1) word) is ∙ ap (λ (l : List ℕ). 49 ∷ l) (drop_of_length-le word (omega arith)))) }
+    one_body is all = record {
+      are_factors = tt;
+      body = (h.marks, h.are, inr (h.text ∙ ap (λ (l : List ℕ). h.marks ++ l) (here ∙ ap (λ (b : ℕ). b ∷ drop (front + 1) word) is ∙ ap (λ (l : List ℕ). 49 ∷ l) (drop_of_length-le word (omega arith)))));
+    }
 
     pub one_spelled : get_or word front 0 ≡ 49 → front + 1 ≡ length word → (j : JahnSymbol) × SpellsJahn word j × (0 ≡ factors_rank j.factors) × (factors_rank j.factors ≤ 6)
     one_spelled is all = (bare, one_body is all, refl, lit≤ tt)
 
   pub marks_body : length word ≤ front → front ≢ 0 → SpellsJahn word bare
-  marks_body le some = record { are_factors = tt; marks = h.marks; are_marks = h.are; body = inl (λ none. some (sym h.size ∙ ap length none), h.text ∙ ap (λ (l : List ℕ). h.marks ++ l) (drop_of_length-le word le) ∙ append_none h.marks) }
-    where
-      append_none : (l : List ℕ) → l ++ [] ≡ l
-      append_none [] = refl
-      append_none (x ∷ l) = ap (λ (k : List ℕ). x ∷ k) (append_none l)
+  marks_body le some = record {
+    are_factors = tt;
+    body = (h.marks, h.are, inl (λ none. some (sym h.size ∙ ap length none), h.text ∙ ap (λ (l : List ℕ). h.marks ++ l) (drop_of_length-le word le) ∙ append_none h.marks));
+  }
 
   pub marks_spelled : length word ≤ front → front ≢ 0 → (j : JahnSymbol) × SpellsJahn word j × (0 ≡ factors_rank j.factors) × (factors_rank j.factors ≤ 6)
   marks_spelled le some = (bare, marks_body le some, refl, lit≤ tt)
 
 nothing_spelled : IsJahnText [] → ⊥
-nothing_spelled (j, h) = by_body j.factors h.are_factors h.body
+nothing_spelled (j, h) = by_body j.factors j.marks h.body
   where
-    none_some : {x : ℕ} {xs : List ℕ} → [] ≡ x ∷ xs → ⊥
-    none_some e = cc
-
-    behind_some : (m : List ℕ) (b : ℕ) (z : List ℕ) → [] ≡ m ++ (b ∷ z) → ⊥
-    behind_some [] b z e = none_some e
-    behind_some (x ∷ m) b z e = none_some e
-
-    by_atom : (m : List ℕ) (a : Atom) (r s : List ℕ) → [] ≡ m ++ ((atom_text a ++ r) ++ s) → ⊥
-    by_atom m V r s e = behind_some m _ _ e
-    by_atom m (Bracketed k a p) r s e = behind_some m _ _ e
-
-    by_body : (fs : List Factor) → AreFactors fs → IsBody h.marks fs [] → ⊥
-    by_body [] are (inl b) = b.0 (sym b.1)
-    by_body [] are (inr b) = behind_some h.marks 49 [] b
-    by_body (f ∷ fs) are b = by_atom h.marks f.atom (power_text f.power) (factors_text fs) b
+    by_body : (fs : List Factor) (m : Marks) → SpellsBody [] fs m → ⊥
+    by_body [] m (k, is, inl e) = e.0 (sym e.1)
+    by_body [] m (k, is, inr e) = behind_some k 49 [] e
+    by_body (f ∷ fs) m h = marked_some h.0 f h.3 h.6
 
 pub empty_wrong : (word : List ℕ) → length word ≤ 0 → IsFaulty IsJahnText word 0
-empty_wrong [] le = faulty IsJahnText [] 0 nothing_spelled (refl, (codes "1", (record { marks = record { axial = false; magnetic = false }; factors = [] }, record { are_factors = tt; marks = []; are_marks = refl; body = inr refl })))
+empty_wrong [] le = faulty IsJahnText [] 0 nothing_spelled (refl, (codes "1", (record { marks = no_marks; factors = [] }, record { are_factors = tt; body = ([], refl, inr refl) })))
 empty_wrong (b ∷ bs) le = absurd (omega arith)
 
 -- ---- one factor more
+xor_assoc : (a b c : Bool) → xor (xor a b) c ≡ xor a (xor b c)
+unfolding xor
+xor_assoc true true true = refl
+xor_assoc true true false = refl
+xor_assoc true false true = refl
+xor_assoc true false false = refl
+xor_assoc false true true = refl
+xor_assoc false true false = refl
+xor_assoc false false true = refl
+xor_assoc false false false = refl
 
-pub factors_snoc : (fs : List Factor) (f : Factor) → factors_text (fs ++ (f ∷ [])) ≡ factors_text fs ++ factor_text f
-factors_snoc [] f = append_none (factor_text f)
+together_assoc : (l m n : Marks) → together (together l m) n ≡ together l (together m n)
+together_assoc l m n = λ i. record { axial = xor_assoc l.axial m.axial n.axial i; magnetic = xor_assoc l.magnetic m.magnetic n.magnetic i }
+
+together_none : (m : Marks) → together no_marks m ≡ together m no_marks
+unfolding xor
+together_none m = λ i. record { axial = by_case m.axial i; magnetic = by_case m.magnetic i }
   where
-    append_none : (l : List ℕ) → l ++ [] ≡ l
-    append_none [] = refl
-    append_none (x ∷ l) = ap (λ (k : List ℕ). x ∷ k) (append_none l)
-factors_snoc (g ∷ fs) f = ap (λ (l : List ℕ). factor_text g ++ l) (factors_snoc fs f) ∙ sym (append_assoc (factor_text g) (factors_text fs) (factor_text f))
+    by_case : (b : Bool) → xor false b ≡ xor b false
+    by_case true = refl
+    by_case false = refl
+
+pub factors_snoc : (fs : List Factor) (word marks : List ℕ) (m own : Marks) (f : Factor) → SpellsFactors word fs m →
+    AreMarks marks own.axial own.magnetic →
+    SpellsFactors (word ++ (marks ++ factor_text f)) (fs ++ (f ∷ [])) (together m own)
+factors_snoc [] word marks m own f h are = (
+  marks,
+  own,
+  are,
+  [],
+  no_marks,
+  (refl, refl),
+  ap (λ (l : List ℕ). l ++ (marks ++ factor_text f)) h.0 ∙ ap (λ (l : List ℕ). marks ++ l) (sym (append_none (factor_text f))),
+  ap (λ (n : Marks). together n own) h.1 ∙ together_none own,
+)
+factors_snoc (g ∷ fs) word marks m own f h are =
+    let more = marks ++ factor_text f in (
+      h.0,
+      h.1,
+      h.2,
+      h.3 ++ more,
+      together h.4 own,
+      factors_snoc fs h.3 marks h.4 own f h.5 are,
+      ap (λ (l : List ℕ). l ++ more) h.6 ∙ append_assoc h.0 (factor_text g ++ h.3) more
+          ∙ ap (λ (l : List ℕ). h.0 ++ l) (append_assoc (factor_text g) h.3 more),
+      ap (λ (n : Marks). together n own) h.7 ∙ together_assoc h.1 h.4 own,
+    )
 
 pub are_snoc : (fs : List Factor) (f : Factor) → AreFactors fs → IsFactor f → AreFactors (fs ++ (f ∷ []))
 are_snoc [] f are is = (is, tt)
@@ -146,11 +152,6 @@ rank_snoc [] f = plus_none (f.power * atom_rank f.atom)
     plus_none : (n : ℕ) → n + 0 ≡ 0 + n
     plus_none n = omega arith
 rank_snoc (g ∷ fs) f = omega (arith, rank_snoc fs f)
-
-capped_all : (p r : ℕ) → 1 ≤ p → p ≤ 6 → min (p * min r 7) 7 ≡ min (p * r) 7
-capped_all zero r low high = absurd (omega arith)
-capped_all (suc zero) r low high = omega arith
-capped_all (suc (suc p)) r low high = capped (suc (suc p)) r (omega arith) high
 
 capped_sum : (old new a b r : ℕ) → old ≡ min a 7 → r ≡ min b 7 → new ≡ min (old + r) 7 → new ≡ min (a + b) 7
 capped_sum old new a b r e f g = omega arith
@@ -182,61 +183,239 @@ drop_drop n (suc k) (x ∷ l) = drop_drop n k l ∙ ap (λ (j : ℕ). drop j (x 
     suc_out : (k n : ℕ) → suc (k + n) ≡ suc k + n
     suc_out k n = omega arith
 
-module _ (word : List ℕ) (at rank : ℕ) (h : Scanned word at rank) where
-  pub Scanned-wrong : at < length word → (m : ℕ) → IsFaulty HasAtom (drop at word) m → IsFaulty IsJahnText word (at + m)
-  Scanned-wrong lt m f = atom_wrong IsJahnText word at m h.through lt f
+-- ---- the factors of a text, up to a place
+pub record Spelled (word : List ℕ) (at : ℕ) (fs : List Factor) (m : Marks) : Type 0 where
+  pub front : List ℕ
+  pub are_factors : AreFactors fs
+  pub spells : SpellsFactors front fs m
+  pub text : word ≡ front ++ drop at word
 
-  module _ (used r : ℕ) (a : AtomIs (drop at word) used r) where
-    pub behind_atom : Through IsJahnText AfterAtom word (at + used)
-    behind_atom = atom_read IsJahnText word at used r h.through a
+pub Spelled-start : (word : List ℕ) → Spelled word 0 [] no_marks
+Spelled-start word = record { front = []; are_factors = tt; spells = (refl, refl); text = refl }
 
-    snoc : (p end new : ℕ) → 1 ≤ p → p ≤ 6 → Through IsJahnText AreFactorsText word end → drop used (drop at word) ≡ power_text p ++ drop end word → new ≡ min (rank + min (p * r) 7) 7 → Scanned word end new
-    snoc p end new low high t rest is =
-        let f : Factor = record { atom = a.atom; power = p } in
-        let fs = h.factors in
-        let split : drop at word ≡ factor_text f ++ drop end word = a.text ∙ ap (λ (l : List ℕ). atom_text a.atom ++ l) rest ∙ sym (append_assoc (atom_text a.atom) (power_text p) (drop end word)) in
-        let product : min (p * r) 7 ≡ min (p * atom_rank a.atom) 7 = ap (λ (k : ℕ). min (p * k) 7) a.rank_is ∙ capped_all p (atom_rank a.atom) low high in
-        record {
-          through = t;
-          axial = h.axial;
-          magnetic = h.magnetic;
-          marks = h.marks;
-          are_marks = h.are_marks;
-          factors = fs ++ (f ∷ []);
-          are_factors = are_snoc fs f h.are_factors (a.is_atom, low, high);
-          text = h.text ∙ ap (λ (l : List ℕ). h.marks ++ (factors_text fs ++ l)) split ∙ ap (λ (l : List ℕ). h.marks ++ l) (sym (append_assoc (factors_text fs) (factor_text f) (drop end word)) ∙ ap (λ (l : List ℕ). l ++ drop end word) (sym (factors_snoc fs f)));
-          rank_is = capped_sum rank new (factors_rank fs) (p * atom_rank a.atom) (min (p * r) 7) h.rank_is product is ∙ ap (λ (k : ℕ). min k 7) (sym (rank_snoc fs f));
-          goes_on = λ e. absurd (snoc_some fs f e);
-        }
+-- behind marks
+pub record Marked (word : List ℕ) (start : ℕ) (fs : List Factor) (m own : Marks) : Type 0 where
+  pub front : List ℕ
+  pub marks : List ℕ
+  pub are_factors : AreFactors fs
+  pub spells : SpellsFactors front fs m
+  pub are_marks : AreMarks marks own.axial own.magnetic
+  pub text : word ≡ front ++ (marks ++ drop start word)
 
-    pub Scanned-bare : (new : ℕ) → (at + used < length word → IsDigit (get_or word (at + used) 0) → ⊥) → new ≡ min (rank + min (1 * r) 7) 7 → Scanned word (at + used) new
-    Scanned-bare new none is = snoc 1 (at + used) new (lit≤ tt) (lit≤ tt) (no_power IsJahnText word (at + used) behind_atom none) (drop_drop used at word) is
+pub Spelled-marked : (word : List ℕ) (at n : ℕ) (fs : List Factor) (m : Marks) → Spelled word at fs m →
+    (h : MarksAre (drop at word) n) → Marked word (at + n) fs m (record { axial = h.axial; magnetic = h.magnetic })
+Spelled-marked word at n fs m s h = record {
+  front = s.front;
+  marks = h.marks;
+  are_factors = s.are_factors;
+  spells = s.spells;
+  are_marks = h.are;
+  text = s.text ∙ ap (λ (l : List ℕ). s.front ++ l) (h.text ∙ ap (λ (l : List ℕ). h.marks ++ l) (drop_drop n at word));
+}
 
-    pub Scanned-power : (new : ℕ) → at + used < length word → IsDigit (get_or word (at + used) 0) → new ≡ min (rank + min ((get_or word (at + used) 0 - 48) * r) 7) 7 → Scanned word (at + used + 1) new
-    Scanned-power new lt digit is = snoc (get_or word (at + used) 0 - 48) (at + used + 1) new (omega (arith, digit.0)) (omega (arith, digit.1)) (power_read IsJahnText word (at + used) behind_atom lt digit) (drop_drop used at word ∙ drop_more word (at + used) 0 lt ∙ ap (λ (l : List ℕ). l ++ drop (at + used + 1) word) (sym (digit_text (get_or word (at + used) 0) digit))) is
+pub Marked-more : (word : List ℕ) (start used : ℕ) (fs : List Factor) (m own : Marks) (f : Factor) →
+    Marked word start fs m own → TakesFactor (drop start word) f used →
+    Spelled word (start + used) (fs ++ (f ∷ [])) (together m own)
+Marked-more word start used fs m own f h t =
+    let rest = drop (start + used) word in
+    let split : drop start word ≡ factor_text f ++ rest = t.text ∙ ap (λ (l : List ℕ). factor_text f ++ l) (drop_drop used start word) in
+    record {
+      front = h.front ++ (h.marks ++ factor_text f);
+      are_factors = are_snoc fs f h.are_factors t.is_factor;
+      spells = factors_snoc fs h.front h.marks m own f h.spells h.are_marks;
+      text = h.text ∙ ap (λ (l : List ℕ). h.front ++ (h.marks ++ l)) split
+          ∙ sym (append_assoc h.front (h.marks ++ factor_text f) rest ∙ ap (λ (l : List ℕ). h.front ++ l) (append_assoc h.marks (factor_text f) rest));
+    }
 
--- ---- the ends
-
-pub Scanned-end : (word : List ℕ) (at rank : ℕ) → Scanned word at rank → length word ≤ at → (j : JahnSymbol) × SpellsJahn word j × (rank ≡ min (factors_rank j.factors) 7)
-Scanned-end word at rank h le = (record { marks = record { axial = h.axial; magnetic = h.magnetic }; factors = h.factors }, record { are_factors = h.are_factors; marks = h.marks; are_marks = h.are_marks; body = body h.factors h.goes_on (h.text ∙ ap (λ (l : List ℕ). h.marks ++ (factors_text h.factors ++ l)) (drop_of_length-le word le) ∙ ap (λ (l : List ℕ). h.marks ++ l) (append_none (factors_text h.factors))) }, h.rank_is)
+-- ---- what may follow
+-- behind marks that go no further, before the end of the word, stands a factor
+pub factor_next : (v : List ℕ) (n : ℕ) → MarksAre v n → 0 < length v → AreFactorsText v → HasFactor (drop n v)
+factor_next v n h some fs = by_rest (drop n v) refl
   where
-    append_none : (l : List ℕ) → l ++ [] ≡ l
-    append_none [] = refl
-    append_none (x ∷ l) = ap (λ (k : List ℕ). x ∷ k) (append_none l)
+    late : 0 < length nothing → ⊥
+    late lt = omega arith
 
-    body : (fs : List Factor) → (fs ≡ [] → at < length word) → word ≡ h.marks ++ factors_text fs → IsBody h.marks fs word
-    body [] more e = absurd (late (more refl))
-      where
-        late : at < length word → ⊥
-        late lt = omega arith
-    body (f ∷ fs) more e = e
+    by_rest : (z : List ℕ) → drop n v ≡ z → HasFactor z
+    by_rest [] e =
+        let P : List ℕ → Type 0 = AreFactorsText in
+        let Q : List ℕ → Type 0 = λ (l : List ℕ). 0 < length l in
+        let is : v ≡ h.marks = h.text ∙ ap (λ (l : List ℕ). h.marks ++ l) e ∙ append_none h.marks in
+        absurd (late (subst Q (is ∙ marks_alone h.marks h.axial h.magnetic h.are (subst P is fs)) some))
+    by_rest (c ∷ z) e =
+        let P : List ℕ → Type 0 = AreFactorsText in
+        marked_factor h.marks h.axial h.magnetic h.are c (h.next c z e) z
+        (subst P (h.text ∙ ap (λ (l : List ℕ). h.marks ++ l) e) fs)
 
--- An atom takes a byte at least.
-pub atom_takes : (word : List ℕ) (used r : ℕ) → AtomIs word used r → 0 < used
-atom_takes word used r a =
-    let whole : length word ≡ length (atom_text a.atom) + length (drop used word) = ap length a.text ∙ length-append (atom_text a.atom) (drop used word) in
-    omega (arith, whole, a.within, length-drop used word, some a.atom)
+left_at : (v : List ℕ) (used c : ℕ) (cs : List ℕ) → drop used v ≡ c ∷ cs → (used < length v) × (get_or v used 0 ≡ c)
+left_at v used c cs e =
+    elim (cases_lt used (length v)) [
+      | inl lt ↦ (lt, heads (sym (drop_more v used 0 lt) ∙ e))
+      | inr le ↦ absurd (none_some (sym (drop_of_length-le v le) ∙ e))
+    ]
+
+-- behind a factor
+pub factors_next : (v : List ℕ) (f : Factor) (used : ℕ) → TakesFactor v f used → (z : List ℕ) →
+    ((c : ℕ) (cs : List ℕ) → z ≡ c ∷ cs → (ds : List ℕ) × (drop used v ≡ c ∷ ds)) → HasFactor (factor_text f ++ z) →
+    AreFactorsText z
+factors_next v f used t z first h = factor_out f z t.is_factor ends h
+  where
+    ends : f.power ≡ 1 → (b : ℕ) (y : List ℕ) → z ≡ b ∷ y → IsDigit b → ⊥
+    ends one b y e digit =
+        let here = first b y e in
+        let at = left_at v used b here.0 here.1 in
+        let P : ℕ → Type 0 = IsDigit in
+        t.ends one at.0 (subst P (sym at.1) digit)
+
+-- A factor takes a byte at least.
+pub factor_takes : (v : List ℕ) (f : Factor) (used : ℕ) → TakesFactor v f used → 0 < used
+factor_takes v f used t =
+    let whole : length v ≡ length (factor_text f) + length (drop used v) = ap length t.text ∙ length-append (factor_text f) (drop used v) in
+    let both : length (factor_text f) ≡ length (atom_text f.atom) + length (power_text f.power) = length-append (atom_text f.atom) (power_text f.power) in
+    omega (arith, whole, both, t.within, length-drop used v, some f.atom)
   where
     some : (b : Atom) → 0 < length (atom_text b)
     some V = omega arith
     some (Bracketed k b p) = omega arith
+
+-- ---- what the loop over the factors keeps
+pub record Scanned (word : List ℕ) (at rank : ℕ) : Type 0 where
+  pub through : Through IsJahnText AreFactorsText word at
+  pub factors : List Factor
+  pub marks : Marks
+  pub spelled : Spelled word at factors marks
+  pub some : factors ≡ [] → ⊥
+  pub rank_is : rank ≡ min (factors_rank factors) 7
+
+pub record Ready (word : List ℕ) (start rank : ℕ) : Type 0 where
+  pub through : Through IsJahnText HasFactor word start
+  pub factors : List Factor
+  pub marks : Marks
+  pub own : Marks
+  pub marked : Marked word start factors marks own
+  pub rank_is : rank ≡ min (factors_rank factors) 7
+
+pub Ready-first : (word : List ℕ) (front : ℕ) → MarksAre word front → front < length word → get_or word front 0 ≢ 49 →
+    Ready word front 0
+Ready-first word front h lt no_one = record {
+  through = first_ready word front h lt no_one;
+  factors = [];
+  marks = no_marks;
+  own = record { axial = h.axial; magnetic = h.magnetic };
+  marked = record {
+    front = [];
+    marks = h.marks;
+    are_factors = tt;
+    spells = (refl, refl);
+    are_marks = h.are;
+    text = h.text;
+  };
+  rank_is = refl;
+}
+
+module _ (word : List ℕ) (at rank n : ℕ) (s : Scanned word at rank) (lt : at < length word) (h : MarksAre (drop at word) n) where
+  abbrev own_marks : Marks
+  own_marks = record { axial = h.axial; magnetic = h.magnetic }
+
+  abbrev Marked-text : List ℕ → Type 0
+  Marked-text z = AreFactorsText (h.marks ++ z)
+
+  marks_skipped : Through IsJahnText Marked-text word (at + n)
+  marks_skipped =
+      let P : ℕ → Type 0 = λ (k : ℕ). Through IsJahnText Marked-text word (at + k) in
+      subst P h.size (Through-skip IsJahnText h.marks AreFactorsText word at s.through (drop n (drop at word)) h.text)
+
+  marks_near : (c : ℕ) (cs z : List ℕ) → drop (at + n) word ≡ c ∷ cs → Marked-text (c ∷ z) → HasFactor (c ∷ z)
+  marks_near c cs z e t = marked_factor h.marks h.axial h.magnetic h.are c (h.next c cs (drop_drop n at word ∙ e)) z t
+
+  marks_whole : Marked-text (drop (at + n) word) → HasFactor (drop (at + n) word)
+  marks_whole t =
+      let P : List ℕ → Type 0 = AreFactorsText in
+      let Q : List ℕ → Type 0 = HasFactor in
+      let is : h.marks ++ drop (at + n) word ≡ drop at word = ap (λ (l : List ℕ). h.marks ++ l) (sym (drop_drop n at word)) ∙ sym h.text in
+      subst Q (drop_drop n at word) (factor_next (drop at word) n h (omega (arith, length-drop at word)) (subst P is t))
+
+  pub Ready-marks : Ready word (at + n) rank
+  Ready-marks = record {
+    through = Through-near IsJahnText Marked-text HasFactor word (at + n) marks_skipped (λ z g. factor_behind h.marks own_marks h.are z g) marks_near marks_whole;
+    factors = s.factors;
+    marks = s.marks;
+    own = own_marks;
+    marked = Spelled-marked word at n s.factors s.marks s.spelled h;
+    rank_is = s.rank_is;
+  }
+
+module _ (word : List ℕ) (start rank : ℕ) (h : Ready word start rank) where
+  pub Ready-wrong : (m : ℕ) → IsFaulty HasAtom (drop start word) m → IsFaulty IsJahnText word (start + m)
+  Ready-wrong m f = Through-faulty IsJahnText HasFactor word start m h.through (factors_wrong (drop start word) m f)
+
+  pub Ready-faulty : (place : ℕ) → (m : ℕ) × (place ≡ start + m) × IsFaulty HasAtom (drop start word) m →
+      IsFaulty IsJahnText word place
+  Ready-faulty place f = let P : ℕ → Type 0 = λ (k : ℕ). IsFaulty IsJahnText word k in subst P (sym f.1) (Ready-wrong f.0 f.2)
+
+  module _ (f : Factor) (used : ℕ) (t : TakesFactor (drop start word) f used) where
+    size : length (factor_text f) ≡ used
+    size =
+        let rest = drop used (drop start word) in
+        let whole : length (drop start word) ≡ length (factor_text f) + length rest = ap length t.text ∙ length-append (factor_text f) rest in
+        omega (arith, whole, t.within, length-drop used (drop start word))
+
+    abbrev Behind-factor : List ℕ → Type 0
+    Behind-factor z = HasFactor (factor_text f ++ z)
+
+    skipped : Through IsJahnText Behind-factor word (start + used)
+    skipped =
+        let P : ℕ → Type 0 = λ (k : ℕ). Through IsJahnText Behind-factor word (start + k) in
+        subst P size (Through-skip IsJahnText (factor_text f) HasFactor word start h.through (drop used (drop start word)) t.text)
+
+    passed : Through IsJahnText AreFactorsText word (start + used)
+    passed =
+        Through-near IsJahnText Behind-factor AreFactorsText word (start + used) skipped
+        (λ z g. (f, t.is_factor, z, refl, g))
+        (λ c cs z e g. factors_next (drop start word) f used t (c ∷ z) (λ b bs is. (cs, drop_drop used start word ∙ e ∙ ap (λ (k : ℕ). k ∷ cs) (heads is))) g)
+        (λ g. factors_next (drop start word) f used t (drop (start + used) word) (λ b bs is. (bs, drop_drop used start word ∙ is)) g)
+
+  pub Ready-more : (end r new : ℕ) → FactorFrom word start end r → new ≡ min (rank + r) 7 → Scanned word end new
+  Ready-more end r new g is =
+      let f = g.factor in
+      let fs = h.factors in
+      let P : ℕ → Type 0 = λ (k : ℕ). Scanned word k new in
+      subst P (sym g.end_is) (record {
+        through = passed f g.used g.takes;
+        factors = fs ++ (f ∷ []);
+        marks = together h.marks h.own;
+        spelled = Marked-more word start g.used fs h.marks h.own f h.marked g.takes;
+        some = snoc_some fs f;
+        rank_is = capped_sum rank new (factors_rank fs) (f.power * atom_rank f.atom) r h.rank_is g.rank_is is ∙ ap (λ (k : ℕ). min k 7) (sym (rank_snoc fs f));
+      })
+
+  pub Ready-only : (end r : ℕ) → FactorFrom word start end r → rank ≡ 0 → Scanned word end r
+  Ready-only end r g none = Ready-more end r r g (ap (λ (k : ℕ). k) g.rank_is ∙ low (g.factor.power * atom_rank g.factor.atom) r g.rank_is none)
+    where
+      low : (n r : ℕ) → r ≡ min n 7 → rank ≡ 0 → min n 7 ≡ min (rank + r) 7
+      low n r e f = omega arith
+
+-- a factor ends behind its start
+pub factor_goes : (word : List ℕ) (start end r : ℕ) → FactorFrom word start end r → start < end
+factor_goes word start end r g = omega (arith, g.end_is, factor_takes (drop start word) g.factor g.used g.takes)
+
+-- ---- the end
+pub Spelled-end : (word : List ℕ) (at : ℕ) (fs : List Factor) (m : Marks) → Spelled word at fs m → length word ≤ at →
+    SpellsFactors word fs m
+Spelled-end word at fs m s le =
+    let P : List ℕ → Type 0 = λ (l : List ℕ). SpellsFactors l fs m in
+    let is : word ≡ s.front = s.text ∙ ap (λ (l : List ℕ). s.front ++ l) (drop_of_length-le word le) ∙ append_none s.front in
+    subst P (sym is) s.spells
+
+pub Scanned-end : (word : List ℕ) (at rank : ℕ) → Scanned word at rank → length word ≤ at → (j : JahnSymbol) × SpellsJahn word j × (rank ≡ min (factors_rank j.factors) 7)
+Scanned-end word at rank h le = (
+  record { marks = h.marks; factors = h.factors },
+  record {
+    are_factors = h.spelled.are_factors;
+    body = body h.factors h.some (Spelled-end word at h.factors h.marks h.spelled le);
+  },
+  h.rank_is,
+)
+  where
+    body : (fs : List Factor) → (fs ≡ [] → ⊥) → SpellsFactors word fs h.marks → SpellsBody word fs h.marks
+    body [] some e = absurd (some refl)
+    body (f ∷ fs) some e = e

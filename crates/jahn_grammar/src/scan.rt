@@ -1,7 +1,8 @@
 //! The rank of the symbol that a word spells, or the place where the word goes wrong.
 
-ghost use Rattle.std.specs.Prelude.{◌≡◌, ℕ, ◌*◌, ◌≤◌, length, min, MatchBool};
+ghost use Rattle.std.specs.Prelude.{◌≡◌, ◌≢◌, ℕ, ◌*◌, ◌≤◌, ◌<◌, length, get_or, min, MatchBool, IfOk};
 ghost use Rattle.jahn_grammar.specs.Views.{CountIs, IsOpening, IsDigit, IsMark, MarksAre, ReadsAtom, ReadsRank, closer};
+ghost use Rattle.jahn_grammar.specs.Views.{ReadsFactor};
 
 use crate::{Fault, RankCount};
 
@@ -94,6 +95,44 @@ pub(crate) fn marks_len(word: &[u8]) -> usize
     2
 }
 
+/// The place behind the factor from a place on, and its rank, or 7 where it is above 6. A digit behind its atom is
+/// its power.
+fn scan_factor(word: &[u8], start: usize) -> Result<(usize, u8), Fault>
+    requires short { length word.now ≤ 4000 }
+    requires fits { start ≤ length word.now }
+    ensures reads { ReadsFactor word.now start result }
+    ensures within { IfOk result (λ x. x.0 ≤ length word.now) }
+{
+    let rest = &word[start..];
+    match scan_atom(rest) {
+        Ok((used, rank)) if used < rest.len() && is_power(rest[used]) => {
+            Ok((start + used + 1, capped_product(rank, rest[used] - b'0')))
+        }
+        Ok((used, rank)) => Ok((start + used, rank)),
+        Err(fault) => Err(Fault {
+            place: start + fault.place,
+        }),
+    }
+}
+
+/// The rank of the symbol of a word of factors, where the marks before the first are as many as front says.
+fn scan_factors(word: &[u8], front: usize) -> Result<RankCount, Fault>
+    requires short { length word.now ≤ 4000 }
+    requires marks { MarksAre word.now front }
+    requires fits { front < length word.now }
+    requires no_one { get_or word.now front 0 ≢ 49 }
+    ensures { ReadsRank word.now result }
+{
+    let (mut at, mut rank) = scan_factor(word, front)?;
+    while at < word.len() {
+        let start = at + marks_len(&word[at..]);
+        let (end, more) = scan_factor(word, start)?;
+        at = end;
+        rank = (rank + more).min(7);
+    }
+    Ok(rank_count(rank))
+}
+
 /// The rank of the symbol that the whole word spells, in time linear in the word's length. `Err` where it
 /// spells none: the length of the longest front of the word that begins some symbol.
 pub fn scan_jahn(word: &[u8]) -> Result<RankCount, Fault>
@@ -115,23 +154,5 @@ pub fn scan_jahn(word: &[u8]) -> Result<RankCount, Fault>
             Err(Fault { place: front + 1 })
         };
     }
-    let mut at = front;
-    let mut rank = 0u8;
-    while at < word.len() {
-        match scan_atom(&word[at..]) {
-            Ok((used, atom_rank)) => {
-                at += used;
-                let mut power = 1;
-                if at < word.len() && is_power(word[at]) {
-                    power = word[at] - b'0';
-                    at += 1;
-                }
-                rank = (rank + capped_product(atom_rank, power)).min(7);
-            }
-            Err(fault) => return Err(Fault {
-                place: at + fault.place,
-            }),
-        }
-    }
-    Ok(rank_count(rank))
+    scan_factors(word, front)
 }

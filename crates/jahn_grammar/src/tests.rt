@@ -49,6 +49,13 @@ fn words_are_scanned(rt: HostRuntime) -> Result<(), Fail> {
         ("[V]", 1002),
         ("[V2}", 1003),
         ("1V", 1001),
+        ("VeV", 2),
+        ("aVaeV", 2),
+        ("aeV2ea[V2]", 4),
+        ("Ve", 1002),
+        ("VeeV", 1002),
+        ("V2a1", 1003),
+        ("eeV", 1001),
         ("ee", 1001),
         ("eae", 1002),
     ];
@@ -76,6 +83,10 @@ fn words_are_read_and_written(rt: HostRuntime) -> Result<(), Fail> {
         ("ea[{V2}2]", "ae[{V2}2]"),
         ("V[V2]", "V[V2]"),
         ("e[V2]2V", "e[V2]2V"),
+        ("VeV", "eVV"),
+        ("eVeV", "VV"),
+        ("aVaeV", "eVV"),
+        ("eV2a[V2]", "aeV2[V2]"),
     ];
     for (word, text) in rows {
         let word = word.as_bytes();

@@ -1,7 +1,9 @@
 pub mod WordTexts
 pub mod Slots
 pub mod Positions
+pub mod WordLists
 pub mod KeywordTexts
 pub mod Requests
+pub mod Comments
 pub mod Spelled
 pub mod WeightTexts

@@ -15,13 +15,13 @@ use Rattle.request_lines.specs.Parts.{WordEnds, word_at, IsWrongFrom, GroupTaken
 use Rattle.request_lines.proofs.WordTexts.{Clean, Spaces}
 use Rattle.request_lines.proofs.Slots.{wrong_word, word_short, word_long, later_wrong}
 
-clean_front : (l : List ℕ) (n : ℕ) → ((k : ℕ) → k < n → get_or l k 0 ≢ 32) → Clean (take n l)
-clean_front [] zero h = tt
-clean_front [] (suc n) h = tt
-clean_front (x ∷ xs) zero h = tt
-clean_front (x ∷ xs) (suc n) h = (h zero (omega arith), clean_front xs n (λ k lt. h (suc k) (omega arith)))
+clean_front : (separator : ℕ) (l : List ℕ) (n : ℕ) → ((k : ℕ) → k < n → get_or l k 0 ≢ separator) → Clean separator (take n l)
+clean_front separator [] zero h = tt
+clean_front separator [] (suc n) h = tt
+clean_front separator (x ∷ xs) zero h = tt
+clean_front separator (x ∷ xs) (suc n) h = (h zero (omega arith), clean_front separator xs n (λ k lt. h (suc k) (omega arith)))
 
-module _ (line : List ℕ) (start end : ℕ) (e : WordEnds line start end) where
+module _ (separator : ℕ) (line : List ℕ) (start end : ℕ) (e : WordEnds separator line start end) where
   forward : start ≤ end
   forward = e.forward
 
@@ -39,56 +39,57 @@ module _ (line : List ℕ) (start end : ℕ) (e : WordEnds line start end) where
   pub word_size : length (word_at line start end) ≡ end - start
   word_size = length-take-le (end - start) (drop start line) (let b = fits in omega (arith, length-drop start line))
 
-  pub word_clean : Clean (word_at line start end)
-  word_clean = clean_front (drop start line) (end - start) (λ k lt eq. e.no_space (start + k) (omega arith) (omega arith) (sym (get_or-drop start line k 0) ∙ eq))
+  pub word_clean : Clean separator (word_at line start end)
+  word_clean = clean_front separator (drop start line) (end - start) (λ k lt eq. e.none (start + k) (omega arith) (omega arith) (sym (get_or-drop start line k 0) ∙ eq))
 
-  pub at_space : end < length line → drop end line ≡ 32 ∷ drop (end + 1) line
-  at_space lt = drop_more line end 0 lt ∙ ap (λ (b : ℕ). b ∷ drop (end + 1) line) (e.at_space lt)
+  pub at_separator : end < length line → drop end line ≡ separator ∷ drop (end + 1) line
+  at_separator lt = drop_more line end 0 lt ∙ ap (λ (b : ℕ). b ∷ drop (end + 1) line) (e.at_separator lt)
 
-  spaces : Spaces (drop end line)
+  pub spaces : Spaces separator (drop end line)
   spaces =
       elim (cases_lt end (length line)) [
-        | inl lt ↦ subst Spaces (sym (at_space lt)) refl
-        | inr le ↦ subst Spaces (sym (drop_all end line le)) tt
+        | inl lt ↦ subst (Spaces separator) (sym (at_separator lt)) refl
+        | inr le ↦ subst (Spaces separator) (sym (drop_all end line le)) tt
       ]
-
-  size_reaches : end ≡ start + (end - start)
-  size_reaches = let a = forward in omega arith
-
-  pub wrong_inside : (s : Slot) (slots : List Slot) (m : ℕ) → IsFaulty (IsWordOf s) (word_at line start end) m → IsWrongFrom line start s slots (start + m)
-  wrong_inside s slots m f = record {
-    at = m;
-    place_is = refl;
-    faulty = wrong_word s (word_at line start end) word_clean slots (drop end line) (drop start line) spaces word_cut m f;
-  }
 
   pub cut_at_end : length line ≤ end → drop start line ≡ word_at line start end ++ []
   cut_at_end le = word_cut ∙ ap (λ (l : List ℕ). word_at line start end ++ l) (drop_all end line le)
 
-  pub cut_at_space : end < length line → drop start line ≡ word_at line start end ++ 32 ∷ drop (end + 1) line
-  cut_at_space lt = word_cut ∙ ap (λ (l : List ℕ). word_at line start end ++ l) (at_space lt)
+  pub cut_at_separator : end < length line → drop start line ≡ word_at line start end ++ separator ∷ drop (end + 1) line
+  cut_at_separator lt = word_cut ∙ ap (λ (l : List ℕ). word_at line start end ++ l) (at_separator lt)
+
+  pub size_reaches : end ≡ start + (end - start)
+  size_reaches = let a = forward in omega arith
+
+module _ (line : List ℕ) (start end : ℕ) (e : WordEnds 32 line start end) where
+  pub wrong_inside : (s : Slot) (slots : List Slot) (m : ℕ) → IsFaulty (IsWordOf s) (word_at line start end) m → IsWrongFrom line start s slots (start + m)
+  wrong_inside s slots m f = record {
+    at = m;
+    place_is = refl;
+    faulty = wrong_word s (word_at line start end) (word_clean 32 line start end e) slots (drop end line) (drop start line) (spaces 32 line start end e) (word_cut 32 line start end e) m f;
+  }
 
   pub wrong_at_end : (s n : Slot) (slots : List Slot) → length line ≤ end → IsWordOf s (word_at line start end) → IsWrongFrom line start s (n ∷ slots) end
   wrong_at_end s n slots le a = record {
     at = end - start;
-    place_is = size_reaches;
-    faulty = subst (IsFaulty (IsWords s (n ∷ slots)) (drop start line)) word_size (word_short s (word_at line start end) word_clean n slots (drop start line) (cut_at_end le) a);
+    place_is = size_reaches 32 line start end e;
+    faulty = subst (IsFaulty (IsWords s (n ∷ slots)) (drop start line)) (word_size 32 line start end e) (word_short s (word_at line start end) (word_clean 32 line start end e) n slots (drop start line) (cut_at_end 32 line start end e le) a);
   }
 
   module _ (s : Slot) (lt : end < length line) (a : IsWordOf s (word_at line start end)) where
     pub wrong_behind : IsWrongFrom line start s [] end
     wrong_behind = record {
       at = end - start;
-      place_is = size_reaches;
-      faulty = subst (IsFaulty (IsWords s []) (drop start line)) word_size (word_long s (word_at line start end) word_clean (drop (end + 1) line) (drop start line) (cut_at_space lt) a);
+      place_is = size_reaches 32 line start end e;
+      faulty = subst (IsFaulty (IsWords s []) (drop start line)) (word_size 32 line start end e) (word_long s (word_at line start end) (word_clean 32 line start end e) (drop (end + 1) line) (drop start line) (cut_at_separator 32 line start end e lt) a);
     }
 
     pub wrong_later : (n : Slot) (slots : List Slot) (next place : ℕ) → next ≡ end + 1 → IsWrongFrom line next n slots place → IsWrongFrom line start s (n ∷ slots) place
     wrong_later n slots next place is f =
         let g : IsFaulty (IsWords n slots) (drop (end + 1) line) f.at = let P : ℕ → Type 0 = λ (k : ℕ). IsFaulty (IsWords n slots) (drop k line) f.at in subst P is f.faulty in record {
           at = length (word_at line start end) + 1 + f.at;
-          place_is = let p = f.place_is in let a = forward in let w = word_size in omega arith;
-          faulty = later_wrong s (word_at line start end) word_clean (drop (end + 1) line) (drop start line) (cut_at_space lt) a n slots f.at g;
+          place_is = let p = f.place_is in let a = e.forward in let w = word_size 32 line start end e in omega arith;
+          faulty = later_wrong s (word_at line start end) (word_clean 32 line start end e) (drop (end + 1) line) (drop start line) (cut_at_separator 32 line start end e lt) a n slots f.at g;
         }
 
 -- ---- behind a symbol and its space

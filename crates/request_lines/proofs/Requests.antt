@@ -1,7 +1,7 @@
 -- The texts of requests as a keyword and words.
---   request_of      a line that spells a request is a keyword and the words that it wants
---   spells_some     and the other way round
-use Rattle.std.proofs.Common.{◌≡◌, ℕ, ◌+◌, List, [], ◌∷◌, ◌++◌, length, refl, sym, ap, ◌∙◌, append_assoc}
+--   request_of      a line that spells a request is a comment, or a keyword and the words that it wants
+--   spells_some     a keyword and the words that it wants spell a request
+use Rattle.std.proofs.Common.{◌≡◌, ℕ, ◌+◌, ◌⊎◌, inl, inr, List, [], ◌∷◌, ◌++◌, length, refl, sym, ap, ◌∙◌, append_assoc}
 use Rattle.std.specs.Prelude.{codes}
 use Rattle.std.proofs.lemmas.List.{append-nil}
 use Rattle.tensor_defs.specs.declared.Weights.{Weights}
@@ -9,11 +9,15 @@ use Rattle.tensor_defs.specs.declared.Weights.TheVariants.{Plain, Shear}
 use Rattle.text_defs.specs.GroupTexts.{SpellsGroup}
 use Rattle.text_defs.specs.JahnTexts.{SpellsJahn}
 use Rattle.text_defs.specs.Requests as defs
-use Rattle.text_defs.specs.Requests.{GroupAt, JahnAt, weights_text, GroupWord, JahnWord, GroupJahn, GroupGroup, GroupGroupJahn, SpellsRequest, IsRequestText}
+use Rattle.text_defs.specs.declared.Format.{Format}
+use Rattle.text_defs.specs.declared.Format.TheVariants.{One}
+use Rattle.text_defs.specs.Requests.{GroupAt, JahnAt, weights_text, GroupWord, JahnWord, GroupJahn, GroupGroup, GroupGroupJahn}
+use Rattle.text_defs.specs.Requests.{GroupJahns, GroupGroupJahns, IsComment, SpellsRequest, IsRequestText}
 use Rattle.request_lines.specs.declared.keywords.Keyword.{Keyword}
 use Rattle.request_lines.specs.declared.keywords.Keyword.TheVariants.{Form, Group, Voigt, States, Pairs, Differ, Same}
-use Rattle.request_lines.specs.Words.{Slot, GroupSlot, JahnSlot, WeightsSlot, weights_word, IsWordOf, IsWords}
-use Rattle.request_lines.specs.Keywords.{IsRequestOf}
+use Rattle.request_lines.specs.Words.{Slot, GroupSlot, JahnSlot, ListSlot, WeightsSlot, weights_word, IsWordOf, IsWords, words_behind}
+use Rattle.request_lines.specs.Keywords.{IsRequestOf, IsWorded}
+use Rattle.request_lines.proofs.WordLists.{words_list, list_words, behind_first_word, within_most}
 
 -- ---- what is in front of a word
 second_front : (front u z : List ℕ) → (front ++ (u ++ codes " ")) ++ z ≡ front ++ (u ++ 32 ∷ z)
@@ -27,6 +31,15 @@ third_front front u v z =
 pub weights_are : (w : Weights) → weights_text w ≡ 32 ∷ (weights_word w ++ [])
 weights_are Plain = refl
 weights_are Shear = refl
+
+-- what stands behind the first word, and behind the second
+pub behind_first : (front line u b r : List ℕ) → line ≡ front ++ b → b ≡ u ++ 32 ∷ r → line ≡ (front ++ (u ++ codes " ")) ++ r
+behind_first front line u b r is cut = is ∙ ap (λ (l : List ℕ). front ++ l) cut ∙ sym (second_front front u r)
+
+pub behind_second : (front line u v b r s : List ℕ) → line ≡ front ++ b → b ≡ u ++ 32 ∷ r → r ≡ v ++ 32 ∷ s →
+    line ≡ ((front ++ (u ++ 32 ∷ v)) ++ codes " ") ++ s
+behind_second front line u v b r s is first second =
+    is ∙ ap (λ (l : List ℕ). front ++ l) (first ∙ ap (λ (l : List ℕ). u ++ 32 ∷ l) second) ∙ sym (third_front front u v s)
 
 -- ---- the records of requests, from their words
 module _ (front line u b : List ℕ) (is : line ≡ front ++ b) (g : GroupAt) (spells : SpellsGroup u g.symbol) (column : g.column ≡ length front + 1) where
@@ -101,23 +114,46 @@ from_three front line g f j h =
     ∙ third_front front u v z
 
 three_words : (front line : List ℕ) (g f : GroupAt) (j : JahnAt) (h : GroupGroupJahn front line g f j) →
-    IsWords GroupSlot (GroupSlot ∷ JahnSlot ∷ []) (h.groups.first ++ 32 ∷ (h.groups.second.word ++ 32 ∷ (h.jahn.word ++ [])))
+    IsWords GroupSlot (GroupSlot ∷ ListSlot One ∷ []) (h.groups.first ++ 32 ∷ (h.groups.second.word ++ 32 ∷ (h.jahn.word ++ [])))
 three_words front line g f j h =
-    more_words GroupSlot GroupSlot (JahnSlot ∷ []) h.groups.first (h.groups.second.word ++ 32 ∷ (h.jahn.word ++ [])) (g.symbol, h.groups.spells_first)
-    (more_words GroupSlot JahnSlot [] h.groups.second.word (h.jahn.word ++ []) (f.symbol, h.groups.second.spells)
-    (last_word JahnSlot h.jahn.word (j.jahn, h.jahn.spells)))
+    more_words GroupSlot GroupSlot (ListSlot One ∷ []) h.groups.first (h.groups.second.word ++ 32 ∷ (h.jahn.word ++ [])) (g.symbol, h.groups.spells_first)
+    (more_words GroupSlot (ListSlot One) [] h.groups.second.word (h.jahn.word ++ []) (f.symbol, h.groups.second.spells)
+    (last_word (ListSlot One) h.jahn.word (j.jahn, h.jahn.spells)))
 
-pub request_of : (line : List ℕ) (q : defs.Request) → SpellsRequest line q → (k : Keyword) × IsRequestOf k line
-request_of line (defs.Form g j) h = (
-  Form,
-  record {
-    rest = h.group ++ 32 ∷ (h.jahn.word ++ []);
-    text = from_group_jahn (codes "form ") [] line g j h;
-    words = more_words GroupSlot JahnSlot [] h.group (h.jahn.word ++ []) (g.symbol, h.spells_group) (last_word JahnSlot h.jahn.word (j.jahn, h.jahn.spells));
-  },
-)
-request_of line (defs.Group g) h = (Group, record { rest = h.word ++ []; text = h.line_is; words = last_word GroupSlot h.word (g.symbol, h.spells) })
-request_of line (defs.Voigt g j w) h = (
+from_list : (format : Format) (front line : List ℕ) (g : GroupAt) (js : List JahnAt) → GroupJahns format front line g js →
+    (rest : List ℕ) × (line ≡ front ++ rest) × IsWords GroupSlot (ListSlot format ∷ []) rest
+from_list format front line g js h =
+    let list =
+    words_list (words_behind format) (front ++ (h.group ++ codes " ")) line js h.jahns.1 (behind_first_word format js h.jahns.0) in
+    let z : List ℕ = list.0 ++ [] in (
+      h.group ++ 32 ∷ z,
+      list.1 ∙ ap (λ (l : List ℕ). (front ++ (h.group ++ codes " ")) ++ l) (sym (append-nil list.0)) ∙ second_front front h.group z,
+      more_words GroupSlot (ListSlot format) [] h.group z (g.symbol, h.spells_group) (last_word (ListSlot format) list.0 list.2),
+    )
+
+from_two_list : (format : Format) (front line : List ℕ) (g f : GroupAt) (js : List JahnAt) →
+    GroupGroupJahns format front line g f js →
+    (rest : List ℕ) × (line ≡ front ++ rest) × IsWords GroupSlot (GroupSlot ∷ ListSlot format ∷ []) rest
+from_two_list format front line g f js h =
+    let list = words_list (words_behind format) (h.words ++ codes " ") line js h.jahns.1 (behind_first_word format js h.jahns.0) in
+    let z : List ℕ = list.0 ++ [] in
+    let u : List ℕ = h.groups.first in
+    let v : List ℕ = h.groups.second.word in (
+      u ++ 32 ∷ (v ++ 32 ∷ z),
+      list.1 ∙ ap (λ (l : List ℕ). (h.words ++ codes " ") ++ l) (sym (append-nil list.0))
+          ∙ ap (λ (l : List ℕ). (l ++ codes " ") ++ z) (from_group_group front h.words g f h.groups ∙ ap (λ (l : List ℕ). front ++ (u ++ 32 ∷ l)) (append-nil v))
+          ∙ third_front front u v z,
+      more_words GroupSlot GroupSlot (ListSlot format ∷ []) u (v ++ 32 ∷ z) (g.symbol, h.groups.spells_first)
+          (more_words GroupSlot (ListSlot format) [] v z (f.symbol, h.groups.second.spells) (last_word (ListSlot format) list.0 list.2)),
+    )
+
+pub request_of : (format : Format) (line : List ℕ) (q : defs.Request) → SpellsRequest format line q →
+    IsComment format line ⊎ IsWorded format line
+request_of format line defs.Comment h = inl h
+request_of format line (defs.Form g js) h =
+    let r = from_list format (codes "form ") line g js h in inr (Form, record { rest = r.0; text = r.1; words = r.2 })
+request_of format line (defs.Group g) h = inr (Group, record { rest = h.word ++ []; text = h.line_is; words = last_word GroupSlot h.word (g.symbol, h.spells) })
+request_of format line (defs.Voigt g j w) h = inr (
   Voigt,
   record {
     rest = h.group ++ 32 ∷ (h.jahn.word ++ 32 ∷ (weights_word w ++ []));
@@ -127,7 +163,7 @@ request_of line (defs.Voigt g j w) h = (
         (more_words JahnSlot WeightsSlot [] h.jahn.word (weights_word w ++ []) (j.jahn, h.jahn.spells) (last_word WeightsSlot (weights_word w) (w, refl)));
   },
 )
-request_of line (defs.States g f) h = (
+request_of format line (defs.States g f) h = inr (
   States,
   record {
     rest = h.first ++ 32 ∷ (h.second.word ++ []);
@@ -135,7 +171,7 @@ request_of line (defs.States g f) h = (
     words = more_words GroupSlot GroupSlot [] h.first (h.second.word ++ []) (g.symbol, h.spells_first) (last_word GroupSlot h.second.word (f.symbol, h.second.spells));
   },
 )
-request_of line (defs.Pairs g f) h = (
+request_of format line (defs.Pairs g f) h = inr (
   Pairs,
   record {
     rest = h.first ++ 32 ∷ (h.second.word ++ []);
@@ -143,15 +179,9 @@ request_of line (defs.Pairs g f) h = (
     words = more_words GroupSlot GroupSlot [] h.first (h.second.word ++ []) (g.symbol, h.spells_first) (last_word GroupSlot h.second.word (f.symbol, h.second.spells));
   },
 )
-request_of line (defs.Differ g f j) h = (
-  Differ,
-  record {
-    rest = h.groups.first ++ 32 ∷ (h.groups.second.word ++ 32 ∷ (h.jahn.word ++ []));
-    text = from_three (codes "differ ") line g f j h;
-    words = three_words (codes "differ ") line g f j h;
-  },
-)
-request_of line (defs.Same g f j) h = (
+request_of format line (defs.Differ g f js) h =
+    let r = from_two_list format (codes "differ ") line g f js h in inr (Differ, record { rest = r.0; text = r.1; words = r.2 })
+request_of format line (defs.Same g f j) h = inr (
   Same,
   record {
     rest = h.groups.first ++ 32 ∷ (h.groups.second.word ++ 32 ∷ (h.jahn.word ++ []));
@@ -178,7 +208,7 @@ some_two front line b is words =
           (words.text ∙ ap (λ (l : List ℕ). words.word ++ l) words.is_ending.1) (second.text ∙ ap (λ (l : List ℕ). second.word ++ l) second.is_ending) f second.is_word.1 refl,
     )
 
-some_three : (front line b : List ℕ) → line ≡ front ++ b → IsWords GroupSlot (GroupSlot ∷ JahnSlot ∷ []) b → (g : GroupAt) × (f : GroupAt) × (j : JahnAt) × GroupGroupJahn front line g f j
+some_three : (front line b : List ℕ) → line ≡ front ++ b → IsWords GroupSlot (GroupSlot ∷ ListSlot One ∷ []) b → (g : GroupAt) × (f : GroupAt) × (j : JahnAt) × GroupGroupJahn front line g f j
 some_three front line b is words =
     let second = words.is_ending.2 in
     let third = second.is_ending.2 in
@@ -193,22 +223,64 @@ some_three front line b is words =
           (third.text ∙ ap (λ (l : List ℕ). third.word ++ l) third.is_ending) words.is_word.1 refl second.is_word.1 refl third.is_word.1 refl,
     )
 
-pub spells_some : (line : List ℕ) (k : Keyword) → IsRequestOf k line → IsRequestText line
-spells_some line Form h =
-    let second = h.words.is_ending.2 in
-    let g = group_at (codes "form ") h.words.word h.words.is_word in
-    let j = jahn_at (codes "form " ++ (h.words.word ++ codes " ")) second.word second.is_word in (
-      defs.Form g j,
-      make_group_jahn (codes "form ") line h.words.word h.rest h.text g h.words.is_word.1 refl second.word h.words.is_ending.0
-          (h.words.text ∙ ap (λ (l : List ℕ). h.words.word ++ l) h.words.is_ending.1) [] (second.text ∙ ap (λ (l : List ℕ). second.word ++ l) second.is_ending) j second.is_word.1 refl,
+-- a group and a list, and two groups and a list
+some_list : (format : Format) (front line b : List ℕ) → line ≡ front ++ b → IsWords GroupSlot (ListSlot format ∷ []) b →
+    (g : GroupAt) × (js : List JahnAt) × GroupJahns format front line g js
+some_list format front line b is words =
+    let second = words.is_ending.2 in
+    let u : List ℕ = words.word in
+    let g = group_at front u words.is_word in
+    let behind = behind_first front line u b words.is_ending.0 is (words.text ∙ ap (λ (l : List ℕ). u ++ l) words.is_ending.1) in
+    let list =
+    list_words (words_behind format) (front ++ (u ++ codes " ")) second.word line second.is_word
+    (behind ∙ ap (λ (l : List ℕ). (front ++ (u ++ codes " ")) ++ l) (second.text ∙ ap (λ (l : List ℕ). second.word ++ l) second.is_ending ∙ append-nil second.word)) in (
+      g,
+      list.0,
+      record {
+        group = u;
+        spells_group = words.is_word.1;
+        group_column = refl;
+        jahns = (within_most format list.0 list.1, list.2);
+      },
     )
-spells_some line Group h =
+
+some_two_list : (format : Format) (front line b : List ℕ) → line ≡ front ++ b →
+    IsWords GroupSlot (GroupSlot ∷ ListSlot format ∷ []) b →
+    (g : GroupAt) × (f : GroupAt) × (js : List JahnAt) × GroupGroupJahns format front line g f js
+some_two_list format front line b is words =
+    let second = words.is_ending.2 in
+    let third = second.is_ending.2 in
+    let u : List ℕ = words.word in
+    let v : List ℕ = second.word in
+    let g = group_at front u words.is_word in
+    let f = group_at (front ++ (u ++ codes " ")) v second.is_word in
+    let behind =
+    behind_second front line u v b words.is_ending.0 second.is_ending.0 is (words.text ∙ ap (λ (l : List ℕ). u ++ l) words.is_ending.1)
+    (second.text ∙ ap (λ (l : List ℕ). v ++ l) second.is_ending.1) in
+    let list =
+    list_words (words_behind format) ((front ++ (u ++ 32 ∷ v)) ++ codes " ") third.word line third.is_word
+    (behind ∙ ap (λ (l : List ℕ). ((front ++ (u ++ 32 ∷ v)) ++ codes " ") ++ l) (third.text ∙ ap (λ (l : List ℕ). third.word ++ l) third.is_ending ∙ append-nil third.word)) in (
+      g,
+      f,
+      list.0,
+      record {
+        words = front ++ (u ++ 32 ∷ v);
+        groups =
+            make_group_group front (front ++ (u ++ 32 ∷ v)) u (u ++ 32 ∷ v) refl g words.is_word.1 refl v v refl (sym (append-nil v)) f
+            second.is_word.1 refl;
+        jahns = (within_most format list.0 list.1, list.2);
+      },
+    )
+
+pub spells_some : (format : Format) (line : List ℕ) (k : Keyword) → IsRequestOf format k line → IsRequestText format line
+spells_some format line Form h = let p = some_list format (codes "form ") line h.rest h.text h.words in (defs.Form p.0 p.1, p.2)
+spells_some format line Group h =
     let g = group_at (codes "group ") h.words.word h.words.is_word in (
       defs.Group g,
       make_group (codes "group ") line h.words.word h.rest h.text g h.words.is_word.1 refl
           (h.words.text ∙ ap (λ (l : List ℕ). h.words.word ++ l) h.words.is_ending),
     )
-spells_some line Voigt h =
+spells_some format line Voigt h =
     let second = h.words.is_ending.2 in
     let third = second.is_ending.2 in
     let w : Weights = third.is_word.0 in
@@ -220,7 +292,7 @@ spells_some line Voigt h =
           (second.text ∙ ap (λ (l : List ℕ). second.word ++ l) (second.is_ending.1 ∙ ap (λ (l : List ℕ). 32 ∷ l)
           (third.text ∙ ap (λ (l : List ℕ). third.word ++ l) third.is_ending ∙ ap (λ (l : List ℕ). l ++ []) third.is_word.1) ∙ sym (weights_are w))) j second.is_word.1 refl,
     )
-spells_some line States h = let p = some_two (codes "states ") line h.rest h.text h.words in (defs.States p.0 p.1, p.2)
-spells_some line Pairs h = let p = some_two (codes "pairs ") line h.rest h.text h.words in (defs.Pairs p.0 p.1, p.2)
-spells_some line Differ h = let p = some_three (codes "differ ") line h.rest h.text h.words in (defs.Differ p.0 p.1 p.2, p.3)
-spells_some line Same h = let p = some_three (codes "same ") line h.rest h.text h.words in (defs.Same p.0 p.1 p.2, p.3)
+spells_some format line States h = let p = some_two (codes "states ") line h.rest h.text h.words in (defs.States p.0 p.1, p.2)
+spells_some format line Pairs h = let p = some_two (codes "pairs ") line h.rest h.text h.words in (defs.Pairs p.0 p.1, p.2)
+spells_some format line Differ h = let p = some_two_list format (codes "differ ") line h.rest h.text h.words in (defs.Differ p.0 p.1 p.2, p.3)
+spells_some format line Same h = let p = some_three (codes "same ") line h.rest h.text h.words in (defs.Same p.0 p.1 p.2, p.3)

@@ -2,3 +2,4 @@ pub mod Words
 pub mod Keywords
 pub mod Parts
 pub mod Readings
+pub mod Worded

@@ -1,15 +1,17 @@
-//! The lines of requests: which request a line spells, or else where the line goes wrong. A reader takes no
-//! memory and goes through the line once.
+//! The lines of requests: which request of a format a line spells, or else where the line goes wrong. A reader takes
+//! no memory, and its time is linear in the line's length.
 #![tactic(auto)]
 
 mod keywords;
+mod lists;
 mod read;
 mod words;
 
 pub use group_symbol::SymbolTree;
+pub use lists::list_word;
 pub use read::read_request;
 pub use tensor_defs::Weights;
-pub use text_defs::Fault;
+pub use text_defs::{Fault, Format};
 
 /// A word of a line, from its first byte to the place behind its last one. Places count from 0.
 #[derive(Clone, Copy, Debug, PartialEq, Eq, Drop)]
@@ -25,10 +27,11 @@ pub struct Named {
     pub start: usize,
 }
 
-/// A request: its kind and its words. `g`, `f` and `h` are group symbols, `j` is a Jahn symbol.
+/// A request: its kind and its words. `g`, `f` and `h` are group symbols, `j` is a Jahn symbol, or the whole list of Jahn
+/// symbols with commas in `Form` and `Differ`.
 #[derive(Debug, Drop)]
 pub enum Request {
-    /// The form of a tensor under a group.
+    /// The forms of tensors under a group.
     Form { g: Named, j: Span },
     /// The elements of a group.
     Group { g: Named },
@@ -38,10 +41,12 @@ pub enum Request {
     States { g: Named, f: Named },
     /// The classes of pairs of its domain states.
     Pairs { g: Named, f: Named },
-    /// How a tensor differs between its domain states.
+    /// How tensors differ between its domain states.
     Differ { g: Named, f: Named, j: Span },
     /// Whether two groups give a tensor the same form.
     Same { g: Named, h: Named, j: Span },
+    /// A comment, which asks for nothing.
+    Comment,
 }
 
 #[cfg(test)]

@@ -2,21 +2,22 @@
 
 ghost use Rattle.std.specs.Prelude.{◌≤◌, IfOk, length};
 ghost use Rattle.request_lines.specs.Parts.{WordEnds, ReadsWeights, ReadsLastWeights, ReadsGroupThen, ReadsLastGroup};
-ghost use Rattle.request_lines.specs.Parts.{ReadsJahnThen, ReadsLastJahn};
+ghost use Rattle.request_lines.specs.Parts.{ReadsJahnThen, ReadsLastList};
 
+use crate::lists::scan_list;
 use crate::{Named, Span};
 use group_symbol::read_group;
 use jahn_grammar::scan_jahn;
 use tensor_defs::Weights;
-use text_defs::Fault;
+use text_defs::{Fault, Format};
 
-/// The place of the first space from a place on, or the length of the line.
-fn word_end(line: &[u8], start: usize) -> usize
+/// The place of the first separator from a place on, or the length of the line.
+pub(crate) fn word_end(line: &[u8], start: usize, separator: u8) -> usize
     requires { start ≤ length line.now }
-    ensures { WordEnds line.now start result }
+    ensures { WordEnds separator line.now start result }
 {
     let mut end = start;
-    while end < line.len() && line[end] != b' ' {
+    while end < line.len() && line[end] != separator {
         end += 1;
     }
     end
@@ -28,7 +29,7 @@ pub(crate) fn group_then(line: &[u8], start: usize) -> Result<(Named, usize), Fa
     ensures reads { ReadsGroupThen line.now start result }
     ensures within { IfOk result (λ x. x.1 ≤ length line.now) }
 {
-    let end = word_end(line, start);
+    let end = word_end(line, start, b' ');
     match read_group(&line[start..end]) {
         Ok(tree) if end < line.len() => Ok((Named { tree, start }, end + 1)),
         Ok(_) => Err(Fault { place: end }),
@@ -43,7 +44,7 @@ pub(crate) fn last_group(line: &[u8], start: usize) -> Result<Named, Fault>
     requires { start ≤ length line.now }
     ensures { ReadsLastGroup line.now start result }
 {
-    let end = word_end(line, start);
+    let end = word_end(line, start, b' ');
     match read_group(&line[start..end]) {
         Ok(tree) if end == line.len() => Ok(Named { tree, start }),
         Ok(_) => Err(Fault { place: end }),
@@ -56,11 +57,11 @@ pub(crate) fn last_group(line: &[u8], start: usize) -> Result<Named, Fault>
 /// The word at a place, which spells a Jahn symbol and has a space behind it, and the place behind that.
 pub(crate) fn jahn_then(line: &[u8], start: usize) -> Result<(Span, usize), Fault>
     requires fits { start ≤ length line.now }
-    requires short { length line.now ≤ 1000 }
+    requires short { length line.now ≤ 4000 }
     ensures reads { ReadsJahnThen line.now start result }
     ensures within { IfOk result (λ x. x.1 ≤ length line.now) }
 {
-    let end = word_end(line, start);
+    let end = word_end(line, start, b' ');
     match scan_jahn(&line[start..end]) {
         Ok(_) if end < line.len() => Ok((Span { start, end }, end + 1)),
         Ok(_) => Err(Fault { place: end }),
@@ -70,16 +71,16 @@ pub(crate) fn jahn_then(line: &[u8], start: usize) -> Result<(Span, usize), Faul
     }
 }
 
-/// The last word of the line, which spells a Jahn symbol.
-pub(crate) fn last_jahn(line: &[u8], start: usize) -> Result<Span, Fault>
+/// The last word of the line, which spells a list of Jahn symbols: one in format 1, one to eight in format 2.
+pub(crate) fn last_list(format: Format, line: &[u8], start: usize) -> Result<Span, Fault>
     requires fits { start ≤ length line.now }
-    requires short { length line.now ≤ 1000 }
-    ensures { ReadsLastJahn line.now start result }
+    requires short { length line.now ≤ 4000 }
+    ensures { ReadsLastList format line.now start result }
 {
-    let end = word_end(line, start);
-    match scan_jahn(&line[start..end]) {
-        Ok(_) if end == line.len() => Ok(Span { start, end }),
-        Ok(_) => Err(Fault { place: end }),
+    let end = word_end(line, start, b' ');
+    match scan_list(format, &line[start..end]) {
+        Ok(()) if end == line.len() => Ok(Span { start, end }),
+        Ok(()) => Err(Fault { place: end }),
         Err(fault) => Err(Fault {
             place: start + fault.place,
         }),
@@ -111,7 +112,7 @@ pub(crate) fn last_weights(line: &[u8], start: usize) -> Result<Weights, Fault>
     requires { start ≤ length line.now }
     ensures { ReadsLastWeights line.now start result }
 {
-    let end = word_end(line, start);
+    let end = word_end(line, start, b' ');
     match read_weights(&line[start..end]) {
         Ok(weights) if end == line.len() => Ok(weights),
         Ok(_) => Err(Fault { place: end }),

@@ -1,14 +1,18 @@
--- The lines of an input, and their answers.
+-- The lines of an input, its format, and the answers of its lines.
 --   lines_of        each LF ends a line, and what follows the last LF is a line too where it isn't empty
 --   whole_lines     the lines whose LF is there
+--   format_of       the format of an input: 2 where its first line says so, else 1
 --   AreAnswers      the answers of lines that are numbered from a number, joined in order
---   AreAnswersOf    the answers of all lines of an input
---   HasRefused      some line is refused
--- What the answer of a line is, and which lines are refused, is given: `IsAnswer` and `IsRefused`, or what a stage of the
--- program answers so far.
+--   AreAnswersOf    the answers of all lines of an input, in its format
+--   HasRefused      some of the lines that are numbered from a number is refused
 -- Source: this project's own.
-use Rattle.std.specs.Prelude.{◌≡◌, ◌⊎◌, ℕ, ◌+◌, ◌==◌, List, [], ◌∷◌, ◌++◌, if◌then◌else◌}
+use Rattle.std.specs.Prelude.{◌≡◌, ◌⊎◌, ℕ, ◌+◌, ◌==◌, List, [], ◌∷◌, ◌++◌, if◌then◌else◌, cond}
 use Rattle.std.specs.List.{flat_map}
+use Rattle.tensor_defs.specs.Lists.{same_numbers_in}
+use Rattle.text_defs.specs.declared.Format.{Format}
+use Rattle.text_defs.specs.declared.Format.TheVariants.{One, Two}
+use Rattle.text_defs.specs.Refusals.{heading, IsRefused}
+use Rattle.text_defs.specs.Answers.{IsAnswer}
 
 -- a byte in front of the first line
 abbrev pub onto_first : ℕ → List (List ℕ) → List (List ℕ)
@@ -32,17 +36,24 @@ whole_lines (b ∷ bs) = if b == 10 then [] ∷ whole_lines bs else onto_whole b
 abbrev pub ended : List (List ℕ) → List ℕ
 ended ls = flat_map (λ l. l ++ 10 ∷ []) ls
 
--- an answer relates the number of a line, the line and the bytes
-abbrev pub AreAnswers : (ℕ → List ℕ → List ℕ → Type 0) → ℕ → List (List ℕ) → List ℕ → Type 0
-AreAnswers Answer number [] bytes = bytes ≡ []
-AreAnswers Answer number (l ∷ ls) bytes =
-    (first : List ℕ) × (rest : List ℕ) × Answer number l first × AreAnswers Answer (number + 1) ls rest
+-- the format that the first of these lines tells
+abbrev pub format_told : List (List ℕ) → Format
+format_told [] = One
+format_told (l ∷ ls) = cond (same_numbers_in l heading) Two One
+
+abbrev pub format_of : List ℕ → Format
+format_of input = format_told (lines_of input)
+
+abbrev pub AreAnswers : Format → ℕ → List (List ℕ) → List ℕ → Type 0
+AreAnswers format number [] bytes = bytes ≡ []
+AreAnswers format number (l ∷ ls) bytes =
+    (first : List ℕ) × (rest : List ℕ) × IsAnswer format number l first × AreAnswers format (number + 1) ls rest
     × (bytes ≡ first ++ rest)
 
 -- the bytes are the answers of an input
-abbrev pub AreAnswersOf : (ℕ → List ℕ → List ℕ → Type 0) → List ℕ → List ℕ → Type 0
-AreAnswersOf Answer input bytes = AreAnswers Answer 1 (lines_of input) bytes
+abbrev pub AreAnswersOf : List ℕ → List ℕ → Type 0
+AreAnswersOf input bytes = AreAnswers (format_of input) 1 (lines_of input) bytes
 
-abbrev pub HasRefused : (List ℕ → Type 0) → List (List ℕ) → Type 0
-HasRefused Refused [] = ⊥
-HasRefused Refused (l ∷ ls) = Refused l ⊎ HasRefused Refused ls
+abbrev pub HasRefused : Format → ℕ → List (List ℕ) → Type 0
+HasRefused format number [] = ⊥
+HasRefused format number (l ∷ ls) = IsRefused format number l ⊎ HasRefused format (number + 1) ls

@@ -1,28 +1,38 @@
 -- Words without space and line feed, and lines made of them.
+--   Above               each byte is above a number
 --   Visible             each byte is above the space
 --   no_space, no_line_feed    such a word holds neither byte
---   first_space         a line is split at its first space in one way
+--   first_split         a text is split at its first separator in one way, where all bytes before it are above it
 --   same_words          words with one space between two are told by the line
 --   group_visible, jahn_visible    the texts of group symbols and of Jahn symbols are such words
+--   jahn_above_comma    no comma stands in the text of a Jahn symbol
 use Rattle.std.proofs.Common.{◌≡◌, ◌==◌, ◌%◌, ◌/◌, ◌+◌, ◌-◌, ◌<◌, ℕ, zero, suc, Bool, true, false, cond}
 use Rattle.std.proofs.Common.{List, [], ◌∷◌, ◌++◌, get_or, refl, sym, subst, arith, inl, inr, lit<}
 use Rattle.std.specs.Prelude.{codes, nat_lt, Contains}
 use Rattle.std.proofs.lemmas.Bool.Decides.{nat_tests}
 use Rattle.tensor_defs.specs.Lists.{Each}
+use Rattle.tensor_defs.specs.Tensor.{Marks}
 use Rattle.tensor_defs.specs.Jahn.{Symmetric, Antisymmetric, Atom, V, Bracketed, Factor, JahnSymbol}
 use Rattle.tensor_defs.specs.Symbols.{GroupSymbol, parent_texts, parent_text}
 use Rattle.text_defs.specs.GroupTexts.{ends_operator, with_primes, suffix_at, SpellsGroup, grey_text}
-use Rattle.text_defs.specs.JahnTexts.{atom_text, power_text, factor_text, factors_text, AreMarks, IsBody}
+use Rattle.text_defs.specs.JahnTexts.{atom_text, power_text, factor_text, AreMarks, SpellsFactors, SpellsBody}
 use Rattle.text_defs.specs.JahnTexts.{SpellsJahn}
 use Rattle.text_defs.specs.NumberTexts.{spaced}
 
+-- each byte is above the number
+abbrev pub Above : ℕ → List ℕ → Type 0
+Above n word = Each (λ b. n < b) word
+
 -- each byte is above the space
 abbrev pub Visible : List ℕ → Type 0
-Visible word = Each (λ b. 32 < b) word
+Visible word = Above 32 word
+
+pub above_append : (n : ℕ) (u v : List ℕ) → Above n u → Above n v → Above n (u ++ v)
+above_append n [] v h k = k
+above_append n (b ∷ u) v h k = (h.0, above_append n u v h.1 k)
 
 pub visible_append : (u v : List ℕ) → Visible u → Visible v → Visible (u ++ v)
-visible_append [] v h k = k
-visible_append (b ∷ u) v h k = (h.0, visible_append u v h.1 k)
+visible_append u v h k = above_append 32 u v h k
 
 pub visible_at : (b : ℕ) (u : List ℕ) → Visible u → Contains u b → 32 < b
 visible_at b [] h c = absurd (omega (arith, c.1))
@@ -45,33 +55,33 @@ tails e = cc
 none_some : {y : ℕ} {ys : List ℕ} → [] ≡ y ∷ ys → ⊥
 none_some e = cc
 
-no_visible_space : (b : ℕ) → 32 < b → b ≡ 32 → ⊥
-no_visible_space b h e = omega arith
+not_above : (n b : ℕ) → n < b → b ≡ n → ⊥
+not_above n b h e = omega arith
 
--- a line is split at its first space in one way
-pub first_space : (u v x y : List ℕ) → Visible u → Visible v → u ++ 32 ∷ x ≡ v ++ 32 ∷ y → (u ≡ v) × (x ≡ y)
-first_space [] [] x y h k e = (refl, tails e)
-first_space [] (b ∷ v) x y h k e = absurd (no_visible_space b k.0 (sym (heads e)))
-first_space (b ∷ u) [] x y h k e = absurd (no_visible_space b h.0 (heads e))
-first_space (b ∷ u) (c ∷ v) x y h k e =
-    let rest = first_space u v x y h.1 k.1 (tails e) in
+-- a text is split at its first separator in one way
+pub first_split : (n : ℕ) (u v x y : List ℕ) → Above n u → Above n v → u ++ n ∷ x ≡ v ++ n ∷ y → (u ≡ v) × (x ≡ y)
+first_split n [] [] x y h k e = (refl, tails e)
+first_split n [] (b ∷ v) x y h k e = absurd (not_above n b k.0 (sym (heads e)))
+first_split n (b ∷ u) [] x y h k e = absurd (not_above n b h.0 (heads e))
+first_split n (b ∷ u) (c ∷ v) x y h k e =
+    let rest = first_split n u v x y h.1 k.1 (tails e) in
     ((λ i. heads e i ∷ rest.0 i), rest.1)
 
--- a word has no space in it
-pub no_later_space : (u v y : List ℕ) → Visible u → u ≡ v ++ 32 ∷ y → ⊥
-no_later_space [] [] y h e = none_some e
-no_later_space [] (c ∷ v) y h e = none_some e
-no_later_space (b ∷ u) [] y h e = no_visible_space b h.0 (heads e)
-no_later_space (b ∷ u) (c ∷ v) y h e = no_later_space u v y h.1 (tails e)
+-- such a word has no separator in it
+pub no_later : (n : ℕ) (u v y : List ℕ) → Above n u → u ≡ v ++ n ∷ y → ⊥
+no_later n [] [] y h e = none_some e
+no_later n [] (c ∷ v) y h e = none_some e
+no_later n (b ∷ u) [] y h e = not_above n b h.0 (heads e)
+no_later n (b ∷ u) (c ∷ v) y h e = no_later n u v y h.1 (tails e)
 
 -- words with one space between two are told by the line
 pub same_words : (u : List ℕ) (us : List (List ℕ)) (v : List ℕ) (vs : List (List ℕ)) → Visible u → Each Visible us →
     Visible v → Each Visible vs → spaced (u ∷ us) ≡ spaced (v ∷ vs) → (u ≡ v) × (us ≡ vs)
 same_words u [] v [] hu hus hv hvs e = (e, refl)
-same_words u [] v (y ∷ vs) hu hus hv hvs e = absurd (no_later_space u v (spaced (y ∷ vs)) hu e)
-same_words u (x ∷ us) v [] hu hus hv hvs e = absurd (no_later_space v u (spaced (x ∷ us)) hv (sym e))
+same_words u [] v (y ∷ vs) hu hus hv hvs e = absurd (no_later 32 u v (spaced (y ∷ vs)) hu e)
+same_words u (x ∷ us) v [] hu hus hv hvs e = absurd (no_later 32 v u (spaced (x ∷ us)) hv (sym e))
 same_words u (x ∷ us) v (y ∷ vs) hu hus hv hvs e =
-    let parts = first_space u v (spaced (x ∷ us)) (spaced (y ∷ vs)) hu hv e in
+    let parts = first_split 32 u v (spaced (x ∷ us)) (spaced (y ∷ vs)) hu hv e in
     let rest = same_words x us y vs hus.0 hus.1 hvs.0 hvs.1 parts.1 in
     (parts.0, λ i. rest.0 i ∷ rest.1 i)
 
@@ -153,46 +163,51 @@ group_visible word t (inl h) =
     (visible_append (with_primes 0 (parent_text t.parent) t.primes) (grey_text t.grey ++ h.suffix) signs ending)
 group_visible word t (inr h) = subst Visible (sym h.0) (visible_tested (codes "1'") refl)
 
--- ---- Jahn symbols
-digit_visible : (p : ℕ) → 32 < 48 + p
-digit_visible p = omega arith
+-- ---- Jahn symbols: each byte is above the comma
+digit_above : (p : ℕ) → 44 < 48 + p
+digit_above p = omega arith
 
-atom_visible : (a : Atom) → Visible (atom_text a)
-atom_visible V = (lit< tt, tt)
-atom_visible (Bracketed Symmetric a p) =
-    (lit< tt, visible_append (atom_text a) ((48 + p) ∷ 93 ∷ []) (atom_visible a) (digit_visible p, (lit< tt, tt)))
-atom_visible (Bracketed Antisymmetric a p) =
-    (lit< tt, visible_append (atom_text a) ((48 + p) ∷ 125 ∷ []) (atom_visible a) (digit_visible p, (lit< tt, tt)))
+atom_above : (a : Atom) → Above 44 (atom_text a)
+atom_above V = (lit< tt, tt)
+atom_above (Bracketed Symmetric a p) =
+    (lit< tt, above_append 44 (atom_text a) ((48 + p) ∷ 93 ∷ []) (atom_above a) (digit_above p, (lit< tt, tt)))
+atom_above (Bracketed Antisymmetric a p) =
+    (lit< tt, above_append 44 (atom_text a) ((48 + p) ∷ 125 ∷ []) (atom_above a) (digit_above p, (lit< tt, tt)))
 
-power_visible : (p : ℕ) → Visible (power_text p)
-power_visible p = by_case (p == 1)
+power_above : (p : ℕ) → Above 44 (power_text p)
+power_above p = by_case (p == 1)
   where
-    by_case : (b : Bool) → Visible (cond b [] ((48 + p) ∷ []))
+    by_case : (b : Bool) → Above 44 (cond b [] ((48 + p) ∷ []))
     by_case true = tt
-    by_case false = (digit_visible p, tt)
+    by_case false = (digit_above p, tt)
 
-factors_visible : (fs : List Factor) → Visible (factors_text fs)
-factors_visible [] = tt
-factors_visible (f ∷ fs) =
-    visible_append (factor_text f) (factors_text fs)
-    (visible_append (atom_text f.atom) (power_text f.power) (atom_visible f.atom) (power_visible f.power))
-    (factors_visible fs)
+marks_above : (u : List ℕ) (a m : Bool) → AreMarks u a m → Above 44 u
+marks_above u false false e = subst (Above 44) (sym e) tt
+marks_above u true false e = subst (Above 44) (sym e) (lit< tt, tt)
+marks_above u false true e = subst (Above 44) (sym e) (lit< tt, tt)
+marks_above u true true (inl e) = subst (Above 44) (sym e) (lit< tt, (lit< tt, tt))
+marks_above u true true (inr e) = subst (Above 44) (sym e) (lit< tt, (lit< tt, tt))
 
-marks_visible : (u : List ℕ) (a m : Bool) → AreMarks u a m → Visible u
-marks_visible u false false e = subst Visible (sym e) tt
-marks_visible u true false e = subst Visible (sym e) (visible_tested (codes "e") refl)
-marks_visible u false true e = subst Visible (sym e) (visible_tested (codes "a") refl)
-marks_visible u true true (inl e) = subst Visible (sym e) (visible_tested (codes "ae") refl)
-marks_visible u true true (inr e) = subst Visible (sym e) (visible_tested (codes "ea") refl)
+factors_above : (word : List ℕ) (fs : List Factor) (m : Marks) → SpellsFactors word fs m → Above 44 word
+factors_above word [] m h = subst (Above 44) (sym h.0) tt
+factors_above word (f ∷ fs) m h =
+    let factor = above_append 44 (atom_text f.atom) (power_text f.power) (atom_above f.atom) (power_above f.power) in
+    let behind = above_append 44 (factor_text f) h.3 factor (factors_above h.3 fs h.4 h.5) in
+    subst (Above 44) (sym h.6)
+    (above_append 44 h.0 (factor_text f ++ h.3) (marks_above h.0 h.1.axial h.1.magnetic h.2) behind)
 
-body_visible : (marks : List ℕ) (fs : List Factor) (word : List ℕ) → Visible marks → IsBody marks fs word →
-    Visible word
-body_visible marks [] word h (inl b) = subst Visible (sym b.1) h
-body_visible marks [] word h (inr b) =
-    subst Visible (sym b) (visible_append marks (codes "1") h (visible_tested (codes "1") refl))
-body_visible marks (f ∷ fs) word h b =
-    subst Visible (sym b) (visible_append marks (factors_text (f ∷ fs)) h (factors_visible (f ∷ fs)))
+body_above : (word : List ℕ) (fs : List Factor) (m : Marks) → SpellsBody word fs m → Above 44 word
+body_above word [] m (marks, is, inl h) = subst (Above 44) (sym h.1) (marks_above marks m.axial m.magnetic is)
+body_above word [] m (marks, is, inr e) =
+    subst (Above 44) (sym e) (above_append 44 marks (codes "1") (marks_above marks m.axial m.magnetic is) (lit< tt, tt))
+body_above word (f ∷ fs) m h = factors_above word (f ∷ fs) m h
+
+pub jahn_above_comma : (word : List ℕ) (j : JahnSymbol) → SpellsJahn word j → Above 44 word
+jahn_above_comma word j h = body_above word j.factors j.marks h.body
 
 pub jahn_visible : (word : List ℕ) (j : JahnSymbol) → SpellsJahn word j → Visible word
-jahn_visible word j h =
-    body_visible h.marks j.factors word (marks_visible h.marks j.marks.axial j.marks.magnetic h.are_marks) h.body
+jahn_visible word j h = lower word (jahn_above_comma word j h)
+  where
+    lower : (u : List ℕ) → Above 44 u → Visible u
+    lower [] a = tt
+    lower (b ∷ u) a = (omega (arith, a.0), lower u a.1)

@@ -1,14 +1,16 @@
 -- The line form 2 V isn't refused, and what it is answered with.
 --   two_members         the members of the group of 2 are the identity and the twofold rotation about y
 --   first_line_not_refused, first_line_answered    the line isn't refused, and has its answer at each number
-use Rattle.std.proofs.Common.{◌≡◌, ℕ, ◌<◌, [], refl, ap, sym, arith, ◌⊎◌, inl, inr, subst}
+use Rattle.std.proofs.Common.{◌≡◌, ℕ, ◌<◌, [], refl, ap, sym, arith, ◌⊎◌, inl, inr, subst, get_or, ◌≤◌, lit≤}
 use Rattle.std.specs.Prelude.{◌↔◌}
 use Rattle.tensor_defs.specs.Frames.{IsPlain, AllOf, OneUnit}
 use Rattle.tensor_defs.specs.Group.{InGroup}
 use Rattle.tensor_defs.specs.Operation.{Axis, x1, x2, x3, Operation, entry, identity, reversal}
 use Rattle.text_defs.specs.Refusals.{RefusalWord, Long, Syntax, Primes, Rank, Shape, NotSub, TooLarge, Refuses}
-use Rattle.text_defs.specs.Refusals.{RefusesRequest}
-use Rattle.text_defs.specs.Requests.{Request, SpellsRequest}
+use Rattle.text_defs.specs.Refusals.{RefusesRequest, IsPassed}
+use Rattle.text_defs.specs.declared.Format.{Format}
+use Rattle.text_defs.specs.declared.Format.TheVariants.{One, Two}
+use Rattle.text_defs.specs.Requests.{Request, SpellsRequest, longest_line}
 use Rattle.text_laws.proofs.RequestUnique.{one_request_spelled}
 use Rattle.worked_rows.proofs.FirstRowProof.{first_row}
 use Rattle.worked_rows.proofs.RowProofs.{false_true}
@@ -67,34 +69,55 @@ not_this Long column h = h
 not_this Syntax column h = h
 not_this Primes column (inl h) = h.0 (inr no_reversal)
 not_this Primes column (inr h) = h.1
-not_this Rank column h = over h.1.0
+not_this Rank column (accepted, inl h) = over h.0
   where
     over : 6 < 1 → ⊥
     over h = omega arith
+not_this Rank column (accepted, inr h) = h.1
 not_this Shape column h = h.2
 not_this (NotSub k) column h = h.3
-not_this TooLarge column h = h.4.1 all_plain
+not_this TooLarge column (accepted, ranks, shape, below, inl h) = h.0.1 all_plain
+not_this TooLarge column (accepted, ranks, shape, below, inr h) = h.1
 
-of_request : (word : RefusalWord) (column : ℕ) (q : Request) → SpellsRequest first_line q →
+of_request : (format : Format) (word : RefusalWord) (column : ℕ) (q : Request) → SpellsRequest format first_line q →
     RefusesRequest q word column → ⊥
-of_request word column q s h =
+of_request format word column q s h =
     not_this word column
-    (subst (λ r. RefusesRequest r word column) (one_request_spelled first_line q first_request s first_row.spelled) h)
+    (subst (λ r. RefusesRequest r word column)
+    (one_request_spelled format first_line q first_request s (first_row.spelled format)) h)
 
-not_by : (word : RefusalWord) (column : ℕ) → Refuses first_line word column → ⊥
-not_by Long column h = long h.0
-  where
-    long : 1000 < 8 → ⊥
-    long h = omega arith
-not_by Syntax column h = h.2.none (first_request, first_row.spelled)
-not_by Primes column h = of_request Primes column h.1 h.2 h.3
-not_by Rank column h = of_request Rank column h.1 h.2 h.3
-not_by Shape column h = of_request Shape column h.1 h.2 h.3
-not_by (NotSub k) column h = of_request (NotSub k) column h.1 h.2 h.3
-not_by TooLarge column h = of_request TooLarge column h.1 h.2 h.3
+not_long : (format : Format) → longest_line format < 8 → ⊥
+not_long One h = omega arith
+not_long Two h = omega arith
+
+not_by : (format : Format) (word : RefusalWord) (column : ℕ) → Refuses format first_line word column → ⊥
+not_by format Long column h = not_long format h.0
+not_by format Syntax column h = h.2.none (first_request, first_row.spelled format)
+not_by format Primes column h = of_request format Primes column h.1 h.2 h.3
+not_by format Rank column h = of_request format Rank column h.1 h.2 h.3
+not_by format Shape column h = of_request format Shape column h.1 h.2 h.3
+not_by format (NotSub k) column h = of_request format (NotSub k) column h.1 h.2 h.3
+not_by format TooLarge column h = of_request format TooLarge column h.1 h.2 h.3
 
 pub first_line_not_refused : FirstLineNotRefused
-first_line_not_refused h = not_by h.0 h.1 h.2
+first_line_not_refused format number h = not_by format h.1 h.2 h.3
+
+first_differs : (n : ℕ) → n ≤ 101 → 102 ≡ n → ⊥
+first_differs n h e = omega arith
+
+fifth_differs : (n : ℕ) → 33 ≤ n → 32 ≡ n → ⊥
+fifth_differs n h e = omega arith
+
+not_passed : (format : Format) (number : ℕ) → IsPassed format number first_line → ⊥
+not_passed format number (inl e) = first_differs 0 (lit≤ tt) (ap (λ bs. get_or bs 0 0) e)
+not_passed One number (inr (inl h)) = h
+not_passed Two number (inr (inl h)) = fifth_differs 97 (lit≤ tt) (ap (λ bs. get_or bs 4 0) h.1)
+not_passed One number (inr (inr h)) = h.1
+not_passed Two number (inr (inr h)) = first_differs 35 (lit≤ tt) (ap (λ bs. get_or bs 0 0) h.1.1)
 
 pub first_line_answered : FirstLineAnswered
-first_line_answered number = inr (first_line_not_refused, first_request, first_row.spelled, first_row.answered)
+first_line_answered format number =
+    inr (
+      not_passed format number,
+      inr (first_line_not_refused format number, first_request, first_row.spelled format, first_row.answered),
+    )

@@ -1,6 +1,6 @@
 use Rattle.std.proofs.Common.{length, ◌-◌}
 use Rattle.jahn_grammar.proofs.Scans.{Scanned}
-use Rattle.jahn_grammar.proofs.scan.scan_jahn.Given as goal
+use Rattle.jahn_grammar.proofs.scan.scan_factors.Given as goal
 
 abbrev pub invariant-loop-at : goal.invariant-loop-at
 invariant-loop-at l = Scanned l.word l.at l.rank
