@@ -1,41 +1,20 @@
 -- Carried over to the unknowns, coefficients of components add up to the same.
-use Rattle.std.proofs.Common.{◌≡◌, ◌≢◌, ℕ, zero, suc, ◌<◌, Bool, true, false, cond, List, [], ◌∷◌, length, get_or, refl, ap, sym, ◌∙◌, arith, inl, inr, subst}
-use Rattle.std.proofs.lemmas.Bool.{cases_eq, cases_order, lt-ltb}
-use Rattle.std.specs.Prelude.{Some, None, IsTrue, Contains}
+--   carried_sum    carried over
+use Rattle.std.proofs.Common.{◌≡◌, ◌≢◌, ℕ, zero, suc, ◌<◌, Bool, true, false, cond, List, [], length, get_or, refl, ap, sym, ◌∙◌, arith, inl, inr}
+use Rattle.std.proofs.lemmas.Bool.{cases_eq, lt-ltb}
+use Rattle.std.specs.Prelude.{Some, None}
+use Rattle.list_laws.proofs.Rising.{rising_apart}
+use Rattle.tensor_laws.proofs.Indices.{same_own, same_told}
+use Rattle.list_laws.proofs.Lists.{option_cases, held_place}
 use Rattle.number_laws.proofs.NumberLaws.{num_add-zero, num_zero-add, num_zero-mul, num_mul-zero, num_mul_assoc, num_mul_comm}
 use Rattle.sparse_rows.proofs.Lines.{dot-zero}
 use Rattle.sparse_rows.specs.Solutions.{dot}
 use Rattle.tensor_defs.specs.Elimination.{Line, Carrier, AreUnknowns, share, by_place, carried}
-use Rattle.tensor_defs.specs.Lists.{IsRising}
 use Rattle.tensor_defs.specs.Number.{Number, add, mul, num_zero, num_one}
-use Rattle.tensor_defs.specs.Operation.{x1, x2, x3}
 use Rattle.tensor_defs.specs.Orders.{IsOrder}
 use Rattle.tensor_defs.specs.Tensor.{Index, Tensor, same_index, sum_indices}
 use Rattle.tensor_laws.proofs.Action.{sum_indices-add, sum_indices-mul, sum_indices-same}
 use Rattle.tensor_laws.proofs.Agreeing.{sum_indices-agree}
-use Rattle.axis_laws.proofs.Links.{option_cases}
-use Rattle.axis_laws.proofs.OneCarrier.{each_held}
-
--- ---- the test of sameness
-same_own : (is : Index) → same_index is is ≡ true
-same_own [] = refl
-same_own (x1 ∷ is) = same_own is
-same_own (x2 ∷ is) = same_own is
-same_own (x3 ∷ is) = same_own is
-
-same_told : (is js : Index) → same_index is js ≡ true → is ≡ js
-same_told [] [] e = refl
-same_told [] (j ∷ js) e = cc
-same_told (i ∷ is) [] e = cc
-same_told (x1 ∷ is) (x1 ∷ js) e = ap (λ ks. x1 ∷ ks) (same_told is js e)
-same_told (x2 ∷ is) (x2 ∷ js) e = ap (λ ks. x2 ∷ ks) (same_told is js e)
-same_told (x3 ∷ is) (x3 ∷ js) e = ap (λ ks. x3 ∷ ks) (same_told is js e)
-same_told (x1 ∷ is) (x2 ∷ js) e = cc
-same_told (x1 ∷ is) (x3 ∷ js) e = cc
-same_told (x2 ∷ is) (x1 ∷ js) e = cc
-same_told (x2 ∷ is) (x3 ∷ js) e = cc
-same_told (x3 ∷ is) (x1 ∷ js) e = cc
-same_told (x3 ∷ is) (x2 ∷ js) e = cc
 
 share-own : (d : Index) (s k : Number) → share (Some (d, s)) k d ≡ mul s k
 share-own d s k = ap (λ b. cond b (mul s k) num_zero) (same_own d)
@@ -89,42 +68,6 @@ dot-sum (suc n) r X t =
     ∙ sym (sum_indices-add r (λ c. mul (X c n) (t n)) (λ c. dot n (X c) t))
 
 -- ---- the places of unknowns
-rising_at : (before : Index → Index → Bool) (us : List Index) → IsRising before us → (p q : ℕ) → p < q →
-    q < length us → IsTrue (before (get_or us p []) (get_or us q []))
-rising_at before [] h p q l m = absurd (omega (arith, m))
-rising_at before (u ∷ us) h p zero l m = absurd (omega (arith, l))
-rising_at before (u ∷ us) h zero (suc q) l m =
-    each_held (λ v. IsTrue (before u v)) us h.0 (get_or us q []) (held us q (omega (arith, m)))
-  where
-    held : (us : List Index) (q : ℕ) → q < length us → Contains us (get_or us q [])
-    held us q l = (q, l, same us q l)
-      where
-        same : (us : List Index) (q : ℕ) → q < length us → get_or us q (get_or us q []) ≡ get_or us q []
-        same [] q l = absurd (omega (arith, l))
-        same (u ∷ us) zero l = refl
-        same (u ∷ us) (suc q) l = same us q (omega (arith, l))
-rising_at before (u ∷ us) h (suc p) (suc q) l m = rising_at before us h.1 p q (omega (arith, l)) (omega (arith, m))
-
-module _ (r : ℕ) (before : Index → Index → Bool) (order : IsOrder r before) where
-  apart : (us : List Index) → IsRising before us → (p q : ℕ) → p < length us → q < length us → p ≢ q →
-      get_or us q [] ≢ get_or us p []
-  apart us h p q l m n e = elim (cases_order p q) [
-    | inl s ↦ n s
-    | inr (inl s) ↦ order.irreflexive (get_or us p [])
-        (subst (λ x. IsTrue (before (get_or us p []) x)) e (rising_at before us h p q s m))
-    | inr (inr s) ↦ order.irreflexive (get_or us p [])
-        (subst (λ x. IsTrue (before x (get_or us p []))) e (rising_at before us h q p s l))
-  ]
-
--- the place of a member
-place_of : (us : List Index) (d : Index) → Contains us d → (q : ℕ) × (q < length us) × (get_or us q [] ≡ d)
-place_of us d (q, l, e) = (q, l, same us q l ∙ e)
-  where
-    same : (us : List Index) (q : ℕ) → q < length us → get_or us q [] ≡ get_or us q d
-    same [] q l = absurd (omega (arith, l))
-    same (u ∷ us) zero l = refl
-    same (u ∷ us) (suc q) l = same us q (omega (arith, l))
-
 by_place-within : (us : List Index) (f : Index → Number) (p : ℕ) → p < length us →
     by_place us f p ≡ f (get_or us p [])
 by_place-within us f p l = ap (λ b. cond b (f (get_or us p [])) num_zero) (lt-ltb p (length us) l)
@@ -149,10 +92,10 @@ module _ (r : ℕ) (before : Index → Index → Bool) (order : IsOrder r before
         let d : Index = v.0.0 in
         let s : Number = v.0.1 in
         let o = own c d s n v.1 in
-        let q = place_of us d ((known.members d o.0).1 o.1) in
+        let q = held_place d [] us ((known.members d o.0).1 o.1) in
         dot-only (length us) q.0 (λ p. share (rep c) k (get_or us p [])) at_unknowns q.1
         (λ p l m. ap (λ o. share o k (get_or us p [])) v.1 ∙ share-other d (get_or us p []) s k
-        (λ x. apart r before order us known.rising p q.0 l q.1 m (q.2 ∙ x)))
+        (λ x. rising_apart before order.irreflexive us known.rising p q.0 [] l q.1 m (sym (q.2 ∙ x))))
         ∙ (λ i. mul (share (v.1 i) k (q.2 i)) (t (q.2 i)))
         ∙ ap (λ x. mul x (t d)) (share-own d s k ∙ num_mul_comm s k) ∙ num_mul_assoc k s (t d)
         ∙ ap (mul k) (sym (some c d s n v.1))

@@ -1,32 +1,19 @@
 -- A diagonal operation multiplies each component by 1 or -1.
 use Rattle.std.proofs.Common.{◌≡◌, ◌≢◌, Bool, true, false, [], ◌∷◌, refl, ap, sym, ◌∙◌, inl, inr}
-use lib.IntN.{pos, negsuc}
 use Rattle.number_laws.proofs.NumberLaws.{num_mul_assoc, num_add-zero, num_zero-add, num_zero-mul, num_mul-zero, num_one-mul}
 use Rattle.tensor_defs.specs.Elimination.{IsSign}
 use Rattle.tensor_defs.specs.Frames.{IsUnit, IsDiagonal}
-use Rattle.tensor_defs.specs.Number.{Number, add, mul, neg, num_zero, num_one, whole, half_of, same_numbers}
+use Rattle.tensor_defs.specs.Number.{Number, add, mul, neg, num_zero, half_of}
 use Rattle.tensor_defs.specs.Operation.{Axis, x1, x2, x3, sum_axes, Entry, Operation, entry, value, determinant}
 use Rattle.tensor_defs.specs.Tensor.{Index, Tensor, Marks, axial_sign, time_sign, sign, coefficient, act}
 use Rattle.tensor_laws.proofs.Action.{turned, turned-cons, turned-nil}
-use Rattle.tensor_laws.proofs.ActionLaws.{act-turned}
+use Rattle.tensor_laws.proofs.ActionLaws.{act-turned, half_of_two, half_of_none, half_of_minus_two}
 use Rattle.axis_laws.proofs.Signs.{sign_mul}
 
 -- ---- entries
-half_two : half_of (pos 2) (pos 0) ≡ num_one
-unfolding half_of whole
-half_two = same_numbers _ _ (record { same_p = refl; same_q = refl })
-
-half_none : half_of (pos 0) (pos 0) ≡ num_zero
-unfolding half_of whole
-half_none = same_numbers _ _ (record { same_p = refl; same_q = refl })
-
-half_minus_two : half_of (negsuc 1) (pos 0) ≡ neg num_one
-unfolding half_of whole mul
-half_minus_two = same_numbers _ _ (record { same_p = refl; same_q = refl })
-
 entry_sign : (e : Entry) → IsUnit e → IsSign (half_of e.rational e.root)
-entry_sign e (inl h) = inl (ap (λ x. half_of x.rational x.root) h ∙ half_two)
-entry_sign e (inr h) = inr (ap (λ x. half_of x.rational x.root) h ∙ half_minus_two)
+entry_sign e (inl h) = inl (ap (λ x. half_of x.rational x.root) h ∙ half_of_two)
+entry_sign e (inr h) = inr (ap (λ x. half_of x.rational x.root) h ∙ half_of_minus_two)
 
 x1_x2 : x1 ≢ x2
 x1_x2 e = cc
@@ -42,7 +29,7 @@ module _ (d : Operation) (h : IsDiagonal d) where
   unfolding value
   off_zero i j n = elim (h i j) [
     | inl p ↦ absurd (n p.0)
-    | inr p ↦ ap (λ x. half_of x.rational x.root) p.1 ∙ half_none
+    | inr p ↦ ap (λ x. half_of x.rational x.root) p.1 ∙ half_of_none
   ]
 
   own_sign : (i : Axis) → IsSign (value d i i)

@@ -1,8 +1,11 @@
 -- Components that are the same up to a sign have the same representative.
 --   AreLinked         each symmetric list has a times its component c at d, and diagonal operations have one factor at both
 --   carriers_linked   the representative of d is that of c, with the sign multiplied by a
-use Rattle.std.proofs.Common.{◌≡◌, Bool, length, refl, ap, sym, ◌∙◌, ◌⊎◌, inl, inr}
+use Rattle.std.proofs.Common.{◌≡◌, Bool, length, refl, ap, sym, ◌∙◌, inl, inr}
 use Rattle.std.specs.Prelude.{Option, Some, None}
+use Rattle.std.proofs.lemmas.Option.{none-some}
+use Rattle.tensor_laws.proofs.Indices.{index_cases}
+use Rattle.list_laws.proofs.Lists.{option_cases}
 use Rattle.number_laws.proofs.NumberLaws.{num_mul_assoc, num_mul-zero, num_one-mul}
 use Rattle.sign_moves.proofs.SignLaws.{own_negative}
 use Rattle.tensor_defs.specs.Elimination.{Carrier, IsSign, IsTied, IsDropped, IsRepresentative, AreRepresentatives}
@@ -12,7 +15,6 @@ use Rattle.tensor_defs.specs.Number.{Number, mul, neg, num_zero, num_one}
 use Rattle.tensor_defs.specs.Operation.{Operation}
 use Rattle.tensor_defs.specs.Orders.{IsOrder}
 use Rattle.tensor_defs.specs.Tensor.{Index, Tensor, coefficient, sign}
-use Rattle.tensor_laws.proofs.Unique.{same_index, none_some}
 use Rattle.axis_laws.proofs.Signs.{sign_twice, sign_mul, same_or_negative}
 
 -- the shape forces the component to zero
@@ -62,14 +64,10 @@ opposite_forced : (j : JahnSymbol) (a b : Number) (d e f : Index) → IsTied j d
 opposite_forced j a b d e f p q same n t h =
     own_negative (t d) (q t h ∙ (λ i. mul (n i) (t (sym same i))) ∙ num_mul_assoc _ a (t e) ∙ ap neg (sym (p t h)))
 
-pub option_cases : {X : Type 0} (o : Option X) → (o ≡ None) ⊎ ((x : X) × (o ≡ Some x))
-option_cases None = inl refl
-option_cases (Some x) = inr (x, refl)
-
 module _ (j : JahnSymbol) (before : Index → Index → Bool) (order : IsOrder (rank j) before) where
   linked_first : (a : Number) (c d e f : Index) (s u : Number) → AreLinked j a c d →
       IsRepresentative j before c e s → IsRepresentative j before d f u → e ≡ f
-  linked_first a c d e f s u l p q = elim (same_index e f) [
+  linked_first a c d e f s u l p q = elim (index_cases e f) [
     | inl h ↦ h
     | inr h ↦ elim (order.total e f p.of_rank q.of_rank h) [
       | inl b ↦ absurd (q.first e (mul a s) p.of_rank (sign_mul a s l.is_sign p.is_sign)
@@ -101,14 +99,14 @@ carriers_linked j H before order rep other p q a c d l = elim (option_cases (rep
   | inl n ↦ (q.none d l.second_rank).1 (dropped_linked j H a c d l ((p.none c l.first_rank).0 n))
       ∙ sym (ap (moved a) n)
   | inr r ↦ elim (option_cases (other d)) [
-    | inl n ↦ absurd (none_some r.0 (sym ((p.none c l.first_rank).1 (dropped_linked j H a d c (linked_back j a c d l)
+    | inl n ↦ absurd (none-some r.0 (sym ((p.none c l.first_rank).1 (dropped_linked j H a d c (linked_back j a c d l)
         ((q.none d l.second_rank).0 n))) ∙ r.1))
     | inr v ↦
         let first = p.some c r.0.0 r.0.1 l.first_rank r.1 in
         let second = q.some d v.0.0 v.0.1 l.second_rank v.1 in
         let e : r.0.0 ≡ v.0.0 = linked_first j before order a c d r.0.0 v.0.0 r.0.1 v.0.1 l first second in
         let s : v.0.1 ≡ mul a r.0.1 = linked_sign j before order a c d r.0.0 v.0.0 r.0.1 v.0.1 l first second
-        (λ z. none_some v.0 (sym ((q.none d l.second_rank).1 (inl z)) ∙ v.1)) in
+        (λ z. none-some v.0 (sym ((q.none d l.second_rank).1 (inl z)) ∙ v.1)) in
         v.1 ∙ (λ i. Some (sym e i, s i)) ∙ sym (ap (moved a) r.1)
   ]
 ]

@@ -5,6 +5,9 @@
 --   symmetric_told    zero at dropped components and elsewhere the sign times the representative: the index symmetry
 use Rattle.std.proofs.Common.{◌≡◌, ℕ, Bool, true, false, List, [], ◌∷◌, ◌++◌, length, refl, ap, sym, ◌∙◌, arith, inl, inr, length-append}
 use Rattle.std.specs.Prelude.{Some, None, cond}
+use Rattle.std.proofs.lemmas.Option.{none-some}
+use Rattle.list_laws.proofs.Lists.{option_cases}
+use Rattle.list_laws.proofs.Members.{each_map}
 use Rattle.number_laws.proofs.NumberLaws.{num_mul_assoc, num_mul-zero, num_one-mul, num_mul_left_comm, num_mul_comm}
 use Rattle.sign_moves.proofs.SignLaws.{own_negative}
 use Rattle.tensor_defs.specs.Elimination.{Carrier, IsSign, IsTied, AreRepresentatives}
@@ -15,10 +18,8 @@ use Rattle.tensor_defs.specs.Number.{Number, mul, neg, num_zero, num_one}
 use Rattle.tensor_defs.specs.Operation.{Operation, value}
 use Rattle.tensor_defs.specs.Orders.{IsOrder}
 use Rattle.tensor_defs.specs.Tensor.{Index, Tensor, coefficient}
-use Rattle.sparse_rows.proofs.Lines.{each_map}
-use Rattle.tensor_laws.proofs.Unique.{none_some}
 use Rattle.axis_laws.proofs.Diagonals.{coefficient_sign}
-use Rattle.axis_laws.proofs.Links.{IsForced, AreLinked, tied_back, option_cases, moved, carriers_linked}
+use Rattle.axis_laws.proofs.Links.{IsForced, AreLinked, tied_back, moved, carriers_linked}
 use Rattle.axis_laws.proofs.Signs.{minus_mul, sign_square, same_or_negative}
 
 -- ---- the factor of an index list is that of its exchange
@@ -117,7 +118,7 @@ tied_factors j c d s e z g h =
 module _ (j : JahnSymbol) (H : Operation → Type 0) (before : Index → Index → Bool) (order : IsOrder (rank j) before)
     (rep : Carrier) (p : AreRepresentatives j H before rep) where
   not_forced : (c d : Index) (s : Number) → length c ≡ rank j → rep c ≡ Some (d, s) → ¬ IsForced j c
-  not_forced c d s n e z = none_some (d, s) (sym ((p.none c n).1 (inl z)) ∙ e)
+  not_forced c d s n e z = none-some (d, s) (sym ((p.none c n).1 (inl z)) ∙ e)
 
   carrier_linked : (c d : Index) (s : Number) → length c ≡ rank j → rep c ≡ Some (d, s) → AreLinked j s c d
   carrier_linked c d s n e =

@@ -1,13 +1,14 @@
 -- A list that diagonal members and the threefold rotation leave the same is left the same by each hexagonal member.
 use Rattle.std.proofs.Common.{◌≡◌, ℕ, ◌<◌, Bool, true, false, refl, sym, ◌∙◌, subst, lit<, inl, inr}
 use Rattle.std.specs.Prelude.{nat_eq}
-use mathlib.Core.Bool.{xor}
-use Rattle.op_matrix.proofs.Frames.{also, either, either_told}
-use Rattle.op_matrix.proofs.Hexagonal.{implies, implied, hex_common, hex_kept_at, diagonal_at_told}
+use Rattle.std.proofs.lemmas.Bool.{eqb-true}
+use Rattle.list_laws.proofs.Below.{all_below, below_told}
+use Rattle.list_laws.proofs.Tests.{either_told, implied, both, plain_xor}
+use Rattle.op_matrix.proofs.Frames.{also, either}
+use Rattle.op_matrix.proofs.Hexagonal.{implies, hex_common, hex_kept_at, diagonal_at_told}
 use Rattle.op_matrix.proofs.Listed.{hex_listed}
 use Rattle.op_matrix.proofs.Products.{product_code, frame_code, product_at, product_code_below}
 use Rattle.op_matrix.specs.Table.{operation_at}
-use Rattle.op_matrix.specs.Tests.{all_below, below_told, both, nat_eq_means}
 use Rattle.op_matrix.specs.View.{hex_frame, both_frame}
 use Rattle.tensor_defs.specs.Frames.{IsDiagonal, IsHexagonal}
 use Rattle.tensor_defs.specs.Operation.{Operation, IsProduct}
@@ -45,11 +46,6 @@ turned_all : all_below 64 turned_right ≡ true
 unfolding product_code frame_code
 turned_all = refl
 
-no_mark : (p : Bool) → p ≡ xor false p
-unfolding xor
-no_mark true = refl
-no_mark false = refl
-
 module _ (m : Marks) (r : ℕ) (t : Tensor) where
   -- the operation leaves the list the same
   abbrev Keeps : Operation → Type 0
@@ -64,7 +60,7 @@ module _ (m : Marks) (r : ℕ) (t : Tensor) where
     square : IsProduct (operation_at 52 false) (operation_at 52 false) (operation_at 50 false)
     square = subst (λ k. IsProduct (operation_at 52 false) (operation_at 52 false) (operation_at k false)) square_is
         (product_at 52 52 false false false (lit< tt) (lit< tt)
-        (hex_common (frame_code 52) (frame_code 52) three_hex three_hex) (no_mark false))
+        (hex_common (frame_code 52) (frame_code 52) three_hex three_hex) (plain_xor false))
 
     in_52 : S (operation_at 52 false)
     in_52 = subst S three_at three
@@ -87,11 +83,11 @@ module _ (m : Marks) (r : ℕ) (t : Tensor) where
         let u = both (nat_eq (product_code a k) n) (both_frame (frame_code k)) e in
         let lk : k < 64 = product_code_below b n lb ln in
         let to : IsProduct (operation_at b false) (operation_at n q) (operation_at k q) =
-        product_at b n false q q lb ln (hex_common (frame_code b) (frame_code n) hb hn) (no_mark q) in
+        product_at b n false q q lb ln (hex_common (frame_code b) (frame_code n) hb hn) (plain_xor q) in
         let from : IsProduct (operation_at a false) (operation_at k q) (operation_at n q) =
         subst (λ x. IsProduct (operation_at a false) (operation_at k q) (operation_at x q))
-        (nat_eq_means (product_code a k) n u.0) (product_at a k false q q la lk
-        (hex_common (frame_code a) (frame_code k) ha (hex_kept_at b n lb ln hb hn)) (no_mark q)) in
+        (eqb-true (product_code a k) n u.0) (product_at a k false q q la lk
+        (hex_common (frame_code a) (frame_code k) ha (hex_kept_at b n lb ln hb hn)) (plain_xor q)) in
         keeps_product (operation_at a false) (operation_at k q) (operation_at n q) from ka
         (diagonals (operation_at k q) (closed (operation_at b false) (operation_at n q) (operation_at k q) sb sn to)
         (diagonal_at_told k q lk u.1))

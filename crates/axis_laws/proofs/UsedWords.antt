@@ -1,8 +1,12 @@
--- The rows of the words in use vanish exactly where those of all words vanish whose count isn't divisible by 3.
+-- The rows of the words that are chosen, each beginning with +, vanish exactly where those of all words of a kind vanish.
+--   Tells           which kind of words a test chooses, among those whose first letter other than z is +
+--   chosen_of, chosen_told    from all words of the kind to those chosen, and back
+--   used_of, used_told        the same for the words in use, whose count isn't divisible by 3
 use Rattle.std.proofs.Common.{◌≡◌, ℕ, zero, suc, ◌+◌, ◌*◌, ◌%◌, ◌<◌, Bool, true, false, cond, List, [], ◌∷◌, ◌++◌, length, refl, ap, sym, ◌∙◌, arith, inl, inr, subst, map}
 use Rattle.std.specs.Prelude.{filter, nat_eq}
 use Rattle.std.proofs.lemmas.Bool.{cases_Bool}
 use Rattle.std.proofs.lemmas.Bool.Decides.{nat_tests}
+use Rattle.list_laws.proofs.Members.{each_append, each_split}
 use Rattle.number_laws.proofs.NumberLaws.{num_neg-neg, num_mul-zero}
 use Rattle.tensor_defs.specs.Lists.{Each}
 use Rattle.tensor_defs.specs.Number.{neg, num_zero}
@@ -14,14 +18,6 @@ use Rattle.tensor_laws.specs.Laws.{row_sum}
 use Rattle.tensor_laws.specs.WordSums.{word_sum}
 
 -- ---- each word of a length
-each_append : {X : Type 0} (P : X → Type 0) (xs ys : List X) → Each P xs → Each P ys → Each P (xs ++ ys)
-each_append P [] ys p q = q
-each_append P (x ∷ xs) ys p q = (p.0, each_append P xs ys p.1 q)
-
-each_split : {X : Type 0} (P : X → Type 0) (xs ys : List X) → Each P (xs ++ ys) → Each P xs × Each P ys
-each_split P [] ys e = (tt, e)
-each_split P (x ∷ xs) ys e = let r = each_split P xs ys e.1 in ((e.0, r.0), r.1)
-
 each_mapped : (P : Word → Type 0) (l : Letter) (ws : List Word) → Each (λ w. P (l ∷ w)) ws →
     Each P (map (λ w. l ∷ w) ws)
 each_mapped P l [] e = tt
@@ -87,26 +83,14 @@ filter_to p P (w ∷ ws) e = elim (cases_Bool (p w)) [
     clash : true ≡ false → ⊥
     clash g = cc
 
--- ---- words in use
-used_counts : (w : Word) → is_used w ≡ true → 0 < (plus_count w + 2 * minus_count w) % 3
-used_counts w e = counts (plus_count w + 2 * minus_count w) (begins_plus w) e
-  where
-    counts : (n : ℕ) (b : Bool) → cond (nat_eq (n % 3) 0) false b ≡ true → 0 < n % 3
-    counts n b e = grind (arith, nat_tests)
-
-counts_used : (w : Word) → 0 < (plus_count w + 2 * minus_count w) % 3 → begins_plus w ≡ true → is_used w ≡ true
-counts_used w h e = used (plus_count w + 2 * minus_count w) (begins_plus w) h e
-  where
-    used : (n : ℕ) (b : Bool) → 0 < n % 3 → b ≡ true → cond (nat_eq (n % 3) 0) false b ≡ true
-    used n b h e = grind (arith, nat_tests)
-
-exchanged_plus : (w : Word) → plus_count (exchanged w) ≡ minus_count w
+-- ---- a word with + and - exchanged
+pub exchanged_plus : (w : Word) → plus_count (exchanged w) ≡ minus_count w
 exchanged_plus [] = refl
 exchanged_plus (level ∷ w) = exchanged_plus w
 exchanged_plus (plus ∷ w) = exchanged_plus w
 exchanged_plus (minus ∷ w) = ap (λ n. 1 + n) (exchanged_plus w)
 
-exchanged_minus : (w : Word) → minus_count (exchanged w) ≡ plus_count w
+pub exchanged_minus : (w : Word) → minus_count (exchanged w) ≡ plus_count w
 exchanged_minus [] = refl
 exchanged_minus (level ∷ w) = exchanged_minus w
 exchanged_minus (plus ∷ w) = ap (λ n. 1 + n) (exchanged_minus w)
@@ -137,25 +121,66 @@ vanish_exchanged t w v =
     let im : neg (word_sum w t).im ≡ num_zero = sym (ap (λ z. z.im) c) ∙ sym b.1 ∙ v.1 in
     (a.0 ∙ sym (ap (λ z. z.re) c) ∙ sym b.0 ∙ v.0, a.1 ∙ sym (num_neg-neg _) ∙ ap neg im ∙ num_mul-zero _)
 
+-- ---- words of a kind
+pub record Tells (chosen : Word → Bool) (Kind : Word → Type 0) : Type 0 where
+  pub is : (w : Word) → chosen w ≡ true → Kind w
+  pub has : (w : Word) → Kind w → begins_plus w ≡ true → chosen w ≡ true
+  pub swaps : (w : Word) → Kind w → Kind (exchanged w)
+  pub some : (w : Word) → Kind w → 0 < plus_count w + minus_count w
+
+pub chosen_length : (chosen : Word → Bool) (r : ℕ) → Each (λ w. length w ≡ r) (filter chosen (words r))
+chosen_length chosen r =
+    filter_from chosen (λ w. length w ≡ r) (words r) (each_word r (λ w. chosen w ≡ true → length w ≡ r) (λ w n u. n))
+
+module _ (chosen : Word → Bool) (Kind : Word → Type 0) (tells : Tells chosen Kind) (r : ℕ) (t : Tensor) where
+  pub chosen_of : ((w : Word) → length w ≡ r → Kind w → BothVanish t w) →
+      Each (λ w. (length w ≡ r) × BothVanish t w) (filter chosen (words r))
+  chosen_of f =
+      filter_from chosen (λ w. (length w ≡ r) × BothVanish t w) (words r)
+      (each_word r (λ w. chosen w ≡ true → (length w ≡ r) × BothVanish t w) (λ w n u. (n, f w n (tells.is w u))))
+
+  pub chosen_told : Each (BothVanish t) (filter chosen (words r)) → (w : Word) → length w ≡ r → Kind w → BothVanish t w
+  chosen_told e w n h = elim (cases_Bool (begins_plus w)) [
+    | inl b ↦ at w n (tells.has w h b)
+    | inr b ↦ vanish_exchanged t w (at (exchanged w) (length-exchanged w ∙ n)
+        (tells.has (exchanged w) (tells.swaps w h) (exchanged_begins w b (tells.some w h))))
+  ]
+    where
+      at : (w : Word) → length w ≡ r → chosen w ≡ true → BothVanish t w
+      at w n u = at_word r (λ w. chosen w ≡ true → BothVanish t w) (filter_to chosen (BothVanish t) (words r) e) w n u
+
+-- ---- words in use
+used_counts : (w : Word) → is_used w ≡ true → 0 < (plus_count w + 2 * minus_count w) % 3
+used_counts w e = counts (plus_count w + 2 * minus_count w) (begins_plus w) e
+  where
+    counts : (n : ℕ) (b : Bool) → cond (nat_eq (n % 3) 0) false b ≡ true → 0 < n % 3
+    counts n b e = grind (arith, nat_tests)
+
+counts_used : (w : Word) → 0 < (plus_count w + 2 * minus_count w) % 3 → begins_plus w ≡ true → is_used w ≡ true
+counts_used w h e = used (plus_count w + 2 * minus_count w) (begins_plus w) h e
+  where
+    used : (n : ℕ) (b : Bool) → 0 < n % 3 → b ≡ true → cond (nat_eq (n % 3) 0) false b ≡ true
+    used n b h e = grind (arith, nat_tests)
+
+abbrev Used : Word → Type 0
+Used w = 0 < (plus_count w + 2 * minus_count w) % 3
+
+used_tells : Tells is_used Used
+used_tells = record {
+  is = used_counts;
+  has = counts_used;
+  swaps = λ w h. omega (arith, exchanged_plus w, exchanged_minus w, h);
+  some = λ w h. omega (arith, h);
+}
+
 pub used_of : (r : ℕ) (t : Tensor) →
     ((w : Word) → length w ≡ r → 0 < (plus_count w + 2 * minus_count w) % 3 → BothVanish t w) →
     Each (λ w. (length w ≡ r) × BothVanish t w) (filter is_used (words r))
-used_of r t f =
-    filter_from is_used (λ w. (length w ≡ r) × BothVanish t w) (words r)
-    (each_word r (λ w. is_used w ≡ true → (length w ≡ r) × BothVanish t w) (λ w n u. (n, f w n (used_counts w u))))
+used_of = chosen_of is_used Used used_tells
 
 pub used_length : (r : ℕ) → Each (λ w. length w ≡ r) (filter is_used (words r))
-used_length r =
-    filter_from is_used (λ w. length w ≡ r) (words r) (each_word r (λ w. is_used w ≡ true → length w ≡ r) (λ w n u. n))
+used_length = chosen_length is_used
 
 pub used_told : (r : ℕ) (t : Tensor) → Each (BothVanish t) (filter is_used (words r)) →
     (w : Word) → length w ≡ r → 0 < (plus_count w + 2 * minus_count w) % 3 → BothVanish t w
-used_told r t e w n h = elim (cases_Bool (begins_plus w)) [
-  | inl b ↦ at w n (counts_used w h b)
-  | inr b ↦ vanish_exchanged t w (at (exchanged w) (length-exchanged w ∙ n)
-      (counts_used (exchanged w) (omega (arith, exchanged_plus w, exchanged_minus w, h))
-      (exchanged_begins w b (omega (arith, h)))))
-]
-  where
-    at : (w : Word) → length w ≡ r → is_used w ≡ true → BothVanish t w
-    at w n u = at_word r (λ w. is_used w ≡ true → BothVanish t w) (filter_to is_used (BothVanish t) (words r) e) w n u
+used_told = chosen_told is_used Used used_tells

@@ -1,11 +1,12 @@
 -- Laws of the tables on the hexagonal axes, as the contracts of src/ cite them.
 --   IsClosed        the members of a list of operations hold their products
---   SolvesRows      zero at dropped components, elsewhere the sign times the representative, and the rows of the words
+--   SolvesWords     zero at dropped components, elsewhere the sign times the representative, and the rows of these words
 --                   add up to zero
+--   SolvesRows      the same for the words in use
 --   RowsDecideInvariance    under a framed group that isn't all plain, the invariant tensors are exactly these lists
 --   OneElimination  the unknowns and the rows are told by the symbol, the group and the order
 -- Source: a rotation about z multiplies the sum of a word by a unit number; International Tables D 1.1 for invariance.
-use Rattle.std.specs.Prelude.{◌≡◌, Bool, List, [], length, filter, get_or, Contains, ◌↔◌, Some, None}
+use Rattle.std.specs.Prelude.{◌≡◌, ℕ, Bool, List, [], length, filter, get_or, Contains, ◌↔◌, Some, None}
 use Rattle.tensor_defs.specs.Elimination.{AreRepresentatives, AreUnknowns, Carrier, rows_of}
 use Rattle.tensor_defs.specs.Frames.{AllOf, IsFramed, IsPlain}
 use Rattle.tensor_defs.specs.Jahn.{JahnSymbol, IsInvariant, rank}
@@ -19,10 +20,13 @@ use Rattle.sparse_rows.specs.Solutions.{Solve}
 pub record IsClosed (hs : List Operation) : Type 0 where
   pub closed : (g h k : Operation) → Contains hs g → Contains hs h → IsProduct g h k → Contains hs k
 
-pub record SolvesRows (j : JahnSymbol) (rep : Carrier) (us : List Index) (t : Tensor) : Type 0 where
-  pub none : (c : Index) → length c ≡ rank j → rep c ≡ None → t c ≡ num_zero
-  pub some : (c d : Index) (s : Number) → length c ≡ rank j → rep c ≡ Some (d, s) → t c ≡ mul s (t d)
-  pub rows : Solve (length us) (λ k. t (get_or us k [])) (rows_of rep (rank j) us (filter is_used (words (rank j))))
+pub record SolvesWords (r : ℕ) (rep : Carrier) (us : List Index) (ws : List Word) (t : Tensor) : Type 0 where
+  pub none : (c : Index) → length c ≡ r → rep c ≡ None → t c ≡ num_zero
+  pub some : (c d : Index) (s : Number) → length c ≡ r → rep c ≡ Some (d, s) → t c ≡ mul s (t d)
+  pub rows : Solve (length us) (λ k. t (get_or us k [])) (rows_of rep r us ws)
+
+abbrev pub SolvesRows : JahnSymbol → Carrier → List Index → Tensor → Type 0
+SolvesRows j rep us t = SolvesWords (rank j) rep us (filter is_used (words (rank j))) t
 
 abbrev pub RowsDecideInvariance : Type 0
 RowsDecideInvariance =

@@ -1,9 +1,11 @@
 -- A table of first components tells the classes over the invariant tensors.
-use Rattle.std.proofs.Common.{◌≡◌, ◌≢◌, ℕ, zero, suc, ◌-◌, ◌^◌, ◌<◌, Bool, true, false, cond, List, [], ◌∷◌, length, get_or, refl, ap, sym, ◌∙◌, arith, subst, inl, inr}
+--   classes_told    the same for the numbers of a typed rank
+use Rattle.std.proofs.Common.{[], ◌≡◌, ◌≢◌, ℕ, zero, suc, ◌-◌, ◌^◌, ◌<◌, Bool, true, false, cond, List, ◌∷◌, length, get_or, refl, ap, sym, ◌∙◌, arith, subst, inl, inr}
 use Rattle.std.specs.Prelude.{Contains, eqb, Some, None}
-use Rattle.std.proofs.lemmas.Bool.{eqb-true, eq-eqb, cases_lt}
+use Rattle.std.proofs.lemmas.Bool.{eqb-true, eq-eqb, cases_lt, cases_Bool, both_ways}
 use Rattle.std.proofs.lemmas.Bool.Decides.{eqb_tells}
 use Rattle.std.proofs.lemmas.List.{get_or_default}
+use Rattle.tensor_laws.proofs.Indices.{index_cases}
 use Rattle.tensor_defs.specs.Frames.{AllOf, IsPlain}
 use Rattle.tensor_defs.specs.Jahn.{JahnSymbol, Bracket, rank, body_brackets, IsInvariant, Respects}
 use Rattle.tensor_defs.specs.Lists.{Each}
@@ -14,14 +16,12 @@ use Rattle.tensor_defs.specs.declared.Sign.{Sign}
 use Rattle.tensor_defs.specs.declared.Sign.TheVariants.{Plus, Minus}
 use Rattle.number_laws.proofs.NumberLaws.{num_neg-neg}
 use Rattle.tensor_laws.proofs.ComponentNumbers.{length-index_of, number-index_of}
-use Rattle.tensor_laws.proofs.Unique.{same_index}
 use Rattle.magnetic_groups.specs.Sets.{In}
 use Rattle.sign_moves.specs.declared.classes.Entry.{Entry}
 use Rattle.sign_moves.specs.Classes.{first_at, sign_at, vanishes_at}
 use Rattle.sign_moves.specs.Firsts.{IsFirstTable}
 use Rattle.sign_moves.specs.Moves.{IsReversible, IsKept, Reaches, stay, move}
 use Rattle.sign_moves.specs.Signs.{signed}
-use Rattle.sign_moves.proofs.EngineLaws.{bool_cases}
 use Rattle.sign_moves.proofs.FirstLaws.{spread, spread_kept, spread_open, spread_vanishing, first_can, first_same}
 use Rattle.sign_moves.proofs.JoinedLaws.{at_first, at_second, kept_again}
 use Rattle.sign_moves.proofs.SignLaws.{signed_zero, sign_not_zero}
@@ -51,9 +51,6 @@ one_where false = num_zero
 -- 1 at one first component and 0 at all others
 abbrev unit : ℕ → ℕ → Number
 unit r d = one_where (eqb d r)
-
-not_both : (b : Bool) → b ≡ false → b ≡ true → ⊥
-not_both b f t = cc
 
 module _
     (j : JahnSymbol) (hs gs : List Operation) (ps : List PlainOp) (all : StandForAll j.marks gs ps)
@@ -92,10 +89,10 @@ module _
 
   unit_away : (r d : ℕ) → d < 3 ^ rank j → (first_at es d ≢ r) → numbered (rank j) (spread_tensor (unit r)) d ≡ num_zero
   unfolding one_where
-  unit_away r d h n = elim (bool_cases (vanishes_at es d)) as (λ _. numbered (rank j) (spread_tensor (unit r)) d ≡ num_zero) [
+  unit_away r d h n = elim (cases_Bool (vanishes_at es d)) as (λ _. numbered (rank j) (spread_tensor (unit r)) d ≡ num_zero) [
     | inl v ↦ spread_is (unit r) d h ∙ spread_vanishing (vanishes_at es) (sign_at es) (first_at es) (unit r) d v
     | inr v ↦
-        let off : eqb (first_at es d) r ≡ false = elim (bool_cases (eqb (first_at es d) r)) as (λ _. eqb (first_at es d) r ≡ false) [
+        let off : eqb (first_at es d) r ≡ false = elim (cases_Bool (eqb (first_at es d) r)) as (λ _. eqb (first_at es d) r ≡ false) [
           | inl e ↦ absurd (n (eqb-true (first_at es d) r e))
           | inr e ↦ e
         ] in
@@ -133,7 +130,7 @@ module _
           | inl p ↦ p.1
           | inr p ↦ absurd (not_zero (unit_away (first_at es c) d l p.1))
         ],
-        elim (bool_cases (vanishes_at es d)) as (λ _. vanishes_at es d ≡ false) [
+        elim (cases_Bool (vanishes_at es d)) as (λ _. vanishes_at es d ≡ false) [
           | inl p ↦ absurd (not_zero (unit_vanishing (first_at es c) d l p))
           | inr p ↦ p
         ],
@@ -155,7 +152,7 @@ module _
       each_contains (y ∷ bs) e (suc k, l, s) = each_contains bs e.1 (k, omega arith, s)
 
   only_one : {g : Operation} {p : PlainOp} → StandsFor j.marks g p → (b m : Index) → coefficient g b m ≢ num_zero → m ≡ moved p b
-  only_one {g} {p} h b m away = elim (same_index m (moved p b)) as (λ _. m ≡ moved p b) [
+  only_one {g} {p} h b m away = elim (index_cases m (moved p b)) as (λ _. m ≡ moved p b) [
     | inl e ↦ e
     | inr e ↦ absurd (away (coefficient_other h b m e))
   ]
@@ -235,13 +232,13 @@ module _
         table.least c (component_number e) h (component_below_at (rank j) e there.of_rank) there.same in
         let here : before_of o e (index_of (rank j) (first_at es c)) ≡ false =
         ap (λ x. before_of o x (index_of (rank j) (first_at es c))) (sym (index_number_at (rank j) e there.of_rank)) ∙ no in
-        not_both (before_of o e (index_of (rank j) (first_at es c))) here less;
+        both_ways (before_of o e (index_of (rank j) (first_at es c))) here less;
     same = λ t inv. first_same (3 ^ rank j) (all_moves j ps) (before_at (rank j) o) es back table (numbered (rank j) t) (group_kept t inv) c h v;
   }
 
   tells : (c : ℕ) → c < 3 ^ rank j →
       TellsClass (GroupStep j (In hs)) (IsInvariant j (In hs)) (before_of o) (rank j) c (class_at es c)
-  tells c h = elim (bool_cases (vanishes_at es c)) as (λ _. TellsClass (GroupStep j (In hs)) (IsInvariant j (In hs)) (before_of o) (rank j) c (class_at es c)) [
+  tells c h = elim (cases_Bool (vanishes_at es c)) as (λ _. TellsClass (GroupStep j (In hs)) (IsInvariant j (In hs)) (before_of o) (rank j) c (class_at es c)) [
     | inl v ↦
         let told : class_at es c ≡ None = ap (λ b. cond b None (Some (first_at es c, sign_at es c))) v in
         subst (TellsClass (GroupStep j (In hs)) (IsInvariant j (In hs)) (before_of o) (rank j) c) (sym told) (record {

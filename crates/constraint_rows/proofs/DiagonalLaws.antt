@@ -1,7 +1,12 @@
 -- What a diagonal operation does to a component.
+--   diagonal_plain    a diagonal operation is plain
+--   own_coefficient, turns_by, not_turns_by    it carries each component to itself
+--   own_carried, killed_along    an exchange of blocks leaves the coefficient from a component to itself
+--   killed_at, killed_none, entry_more    an element of a list kills
 use Rattle.std.proofs.Common.{◌≡◌, ◌≢◌, ℕ, ◌+◌, ◌<◌, ◌^◌, false, List, [], ◌∷◌, ◌++◌, length, get_or, refl, ap, sym, ◌∙◌, arith, subst, inl, inr}
 use Rattle.std.proofs.lemmas.Bool.{cases_lt}
 use Rattle.std.proofs.lemmas.List.{get_or_append_left, get_or_default, get_or_push}
+use Rattle.number_laws.proofs.Sameness.{one_not_zero}
 use Rattle.number_laws.proofs.NumberLaws.{num_one-mul, num_mul_assoc, num_mul_comm, num_mul_left_comm}
 use Rattle.tensor_defs.specs.Frames.{IsDiagonal, IsPlain, IsUnit, OneUnit}
 use Rattle.tensor_defs.specs.Jahn.{Bracket, IsExchange, JahnSymbol}
@@ -13,7 +18,7 @@ use Rattle.magnetic_groups.specs.Sets.{In}
 use Rattle.sign_moves.specs.declared.classes.Entry.{Entry}
 use Rattle.sign_moves.specs.Classes.{entry_at}
 use Rattle.sign_moves.specs.Signs.{signed}
-use Rattle.sign_moves.proofs.SignLaws.{own_negative, one_not_zero, sign_not_zero, signed-signed}
+use Rattle.sign_moves.proofs.SignLaws.{own_negative, sign_not_zero, signed-signed}
 use Rattle.tensor_rank.specs.Carried.{Carried, rests, steps}
 use Rattle.constraint_rows.specs.declared.ops.PlainOp.{PlainOp}
 use Rattle.constraint_rows.specs.Classes.{GroupStep, exchange, turn}

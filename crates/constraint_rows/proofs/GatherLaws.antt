@@ -1,7 +1,13 @@
 -- Parts of rows, with a number added at a component.
-use Rattle.std.proofs.Common.{◌≡◌, ◌≢◌, ℕ, zero, suc, ◌+◌, ◌%◌, ◌^◌, ◌<◌, ◌≤◌, Bool, true, false, cond, List, [], ◌∷◌, ◌++◌, length, get_or, take, drop, refl, ap, sym, ◌∙◌, arith, subst, inl, inr, eq-eqb}
+--   added_new, added_old, each_at_place, counted_kept    by the place of the component
+--   IsTotalBelow, order_total    a strict order that is total below n
+--   whole-add, part_is, row_at-added    what the parts have at a component
+--   IsGathering, class_part, term_part, terms_sum, gathering, row_at-gathered, gathered-append
+--       parts gathered from terms
+--   each_term, gathered_small, gathered_more, nothing_and    parts gathered from some of the terms
+use Rattle.std.proofs.Common.{[], ◌≡◌, ◌≢◌, ℕ, zero, suc, ◌+◌, ◌%◌, ◌^◌, ◌<◌, ◌≤◌, Bool, true, false, cond, List, ◌∷◌, ◌++◌, length, get_or, take, drop, refl, ap, sym, ◌∙◌, arith, subst, inl, inr, eq-eqb}
 use Rattle.std.specs.Prelude.{IsTrue, insert, nat_eq, unsigned_abs, Option, Some, None}
-use Rattle.std.proofs.lemmas.Bool.{eqb-true}
+use Rattle.std.proofs.lemmas.Bool.{eqb-true, ne_eqb, both_ways}
 use Rattle.std.proofs.lemmas.List.{set_split, take_more, length-take-le}
 use Rattle.std.proofs.Math.ListN.{set}
 use Rattle.std.proofs.lemmas.Int.{ints}
@@ -18,18 +24,11 @@ use Rattle.tensor_rank.specs.Orders.{Ordering, before_at}
 use Rattle.tensor_rank.specs.StrictOrders.{orders_are_orders, orders_strict}
 use Rattle.sign_moves.specs.declared.classes.Entry.{Entry}
 use Rattle.sign_moves.specs.Signs.{times}
-use Rattle.sign_moves.proofs.EngineLaws.{bool_cases}
 use Rattle.constraint_rows.specs.Classes.{class_at}
 use Rattle.constraint_rows.specs.Gathering.{AreSmallParts, AreTermsBelow, IsPlaceFor, added, added_here, class_added, counted_at, gathered, is_nothing, part, part_at_place, term_added, turn_sign, unit, with_front}
 use Rattle.constraint_rows.specs.WordRows.{AreParts, AreSound, IsOwn, part_at, parts_rise, row_at}
 use Rattle.constraint_rows.specs.declared.rows.Part.{Part}
 use Rattle.constraint_rows.specs.declared.words.Term.{Term}
-
-nat_differ : (a b : ℕ) → a ≢ b → nat_eq a b ≡ false
-nat_differ a b n = elim (bool_cases (nat_eq a b)) as (λ _. nat_eq a b ≡ false) [
-  | inl e ↦ absurd (n (eqb-true a b e))
-  | inr e ↦ e
-]
 
 -- ---- by the place of the component
 module _ (before : ℕ → ℕ → Bool) (d : ℕ) (k : ℤ) where
@@ -40,7 +39,7 @@ module _ (before : ℕ → ℕ → Bool) (d : ℕ) (k : ℤ) where
   added_new_at [] (suc i) small all stop other = absurd (omega arith)
   added_new_at (p ∷ ps) zero small all stop other =
       ap (λ b. cond b (p ∷ added before d k ps) (added_here d k p ps)) (stop (omega arith))
-      ∙ ap (λ b. cond b (with_front d (p.number +ℤ k) ps) (part d k ∷ p ∷ ps)) (nat_differ p.component d (other (omega arith)))
+      ∙ ap (λ b. cond b (with_front d (p.number +ℤ k) ps) (part d k ∷ p ∷ ps)) (ne_eqb p.component d (other (omega arith)))
   added_new_at (p ∷ ps) (suc i) small all stop other =
       ap (λ b. cond b (p ∷ added before d k ps) (added_here d k p ps)) (all 0 (omega arith))
       ∙ ap (λ qs. p ∷ qs) (added_new_at ps i (omega arith) (λ n h. all (suc n) (omega arith)) (λ h. stop (omega arith)) (λ h. other (omega arith)))
@@ -80,7 +79,7 @@ counted_kept ps i p z k h at is other =
     ∙ sym (ap (λ b. take i ps ++ cond b (drop (suc i) ps) (part q.component (q.number +ℤ k) ∷ drop (suc i) ps)) (some (q.number +ℤ k) (λ e. other (sum ∙ e))))
   where
     some : (x : ℤ) → x ≢ pos 0 → is_nothing x ≡ false
-    some (pos n) m = nat_differ n 0 (λ e. m (ap pos e))
+    some (pos n) m = ne_eqb n 0 (λ e. m (ap pos e))
     some (negsuc n) m = refl
 
 -- ---- what holds of each part
@@ -117,6 +116,7 @@ module _ (before : ℕ → ℕ → Bool) (d : ℕ) (k : ℤ) where
 
 -- ---- a strict order that is total below n
 pub record IsTotalBelow (n : ℕ) (before : ℕ → ℕ → Bool) : Type 0 where
+  pub apart : (a : ℕ) → before a a ≡ true → ⊥
   pub transitive : (a b c : ℕ) → before a b ≡ true → before b c ≡ true → before a c ≡ true
   pub total : (a b : ℕ) → a < n → b < n → a ≢ b → before a b ≡ false → before b a ≡ true
 
@@ -133,7 +133,7 @@ module _ (n : ℕ) (before : ℕ → ℕ → Bool) (order : IsTotalBelow n befor
           IsRising (parts_rise before) (cond b (with_front d (p.number +ℤ k) ps) (part d k ∷ p ∷ ps))
       by_same off true h = by_zero (eqb-true p.component d h) (is_nothing (p.number +ℤ k))
       by_same off false h =
-          let apart : p.component ≢ d = λ e. differ_not p.component d e h in
+          let apart : p.component ≢ d = λ e. both_ways (nat_eq p.component d) h (eq-eqb p.component d e) in
           let ahead : before d p.component ≡ true = order.total p.component d a.0.0 small apart off in (
             (
               ahead,
@@ -142,9 +142,6 @@ module _ (n : ℕ) (before : ℕ → ℕ → Bool) (order : IsTotalBelow n befor
             ),
             r,
           )
-        where
-          differ_not : (x y : ℕ) → x ≡ y → nat_eq x y ≡ false → ⊥
-          differ_not x y e f = let t : true ≡ false = sym (eq-eqb x y e) ∙ f in cc
 
       by_order : IsRising (parts_rise before) (added before d k ps) → (b : Bool) → before p.component d ≡ b →
           IsRising (parts_rise before) (cond b (p ∷ added before d k ps) (added_here d k p ps))
@@ -155,6 +152,7 @@ module _ (n : ℕ) (before : ℕ → ℕ → Bool) (order : IsTotalBelow n befor
 -- orders of components are such orders
 pub order_total : (n r : ℕ) → n ≡ 3 ^ r → (o : Ordering) → IsTotalBelow n (before_at r o)
 order_total n r size o = record {
+  apart = λ a. (orders_are_orders r o).irreflexive (index_of r a);
   transitive = (orders_strict r o).transitive;
   total = λ a b h l apart off.
       let a_is : component_number (index_of r a) ≡ a = number-index_of r a (subst (λ m. a < m) size h) in

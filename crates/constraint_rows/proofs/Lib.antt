@@ -1,4 +1,3 @@
-pub mod AxisLaws
 pub mod OpLaws
 pub mod OpIndex
 pub mod StandLaws

@@ -1,16 +1,19 @@
 -- A signed permutation matrix carries each component to one component, up to a sign.
+--   coefficient_other    the coefficient is zero at all other indices
+--   moved_number    by component numbers
+--   act_number    the action at a component has one term
 use Rattle.std.proofs.Common.{◌≡◌, ◌≢◌, ℕ, zero, suc, ◌^◌, ◌<◌, List, [], ◌∷◌, length, get_or, refl, ap, sym, ◌∙◌, arith, subst, inl, inr}
+use Rattle.tensor_laws.proofs.Indices.{axis_cases}
 use lib.IntN.{negsuc}
 use Rattle.tensor_defs.specs.Number.{Number, add, mul, neg, num_zero, num_one, whole}
 use Rattle.number_laws.proofs.NumberLaws.{num_zero-mul, num_mul-zero, num_add-zero, num_zero-add, num_one-mul, num_mul_assoc}
 use Rattle.tensor_defs.specs.Operation.{Axis, x1, x2, x3, sum_axes, Operation, value, identity}
 use Rattle.tensor_defs.specs.Tensor.{Index, Tensor, Marks, act, coefficient}
-use Rattle.constraint_rows.proofs.AxisLaws.{same_axis, axis_at-place, place-axis_at}
 use Rattle.tensor_defs.specs.Tensor.{Agree}
 use Rattle.tensor_defs.specs.Tensor.{axis_place, component_number, axis_at, index_of}
 use Rattle.tensor_laws.proofs.Action.{turned, turned-cons, turned-nil}
 use Rattle.tensor_laws.proofs.ActionLaws.{act-turned}
-use Rattle.tensor_laws.proofs.ComponentNumbers.{length-index_of}
+use Rattle.tensor_laws.proofs.ComponentNumbers.{length-index_of, axis_at-place, place-axis_at}
 use Rattle.tensor_defs.specs.declared.Sign.{Sign}
 use Rattle.tensor_defs.specs.declared.Sign.TheVariants.{Plus, Minus}
 use Rattle.sign_moves.specs.Signs.{times, times-times, times_plus, signed}
@@ -74,7 +77,7 @@ module _ {m : Marks} {g : Operation} {p : PlainOp} (h : StandsFor m g p) where
   coefficient_other [] [] n = absurd (n refl)
   coefficient_other [] (j ∷ js) n = refl
   coefficient_other (i ∷ is) [] n = refl
-  coefficient_other (i ∷ is) (j ∷ js) n = elim (same_axis j (column p i)) as (λ _. mul (value g i j) (coefficient g is js) ≡ num_zero) [
+  coefficient_other (i ∷ is) (j ∷ js) n = elim (axis_cases j (column p i)) as (λ _. mul (value g i j) (coefficient g is js) ≡ num_zero) [
     | inl e ↦ ap (mul (value g i j)) (coefficient_other is js (λ s. n (λ k. e k ∷ s k))) ∙ num_mul-zero (value g i j)
     | inr e ↦ ap (λ x. mul x (coefficient g is js)) (other_zero i j e) ∙ num_zero-mul (coefficient g is js)
   ]

@@ -1,5 +1,8 @@
 -- A signed permutation matrix is undone by its inverse.
-use Rattle.std.proofs.Common.{◌≡◌, ℕ, ◌+◌, ◌*◌, ◌<◌, ◌≤◌, ◌^◌, List, length, zero, suc, add-one, lit≤, arith, ap, sym, ◌∙◌, refl, subst, lit<, ◌⊎◌, inl, inr, ◌≢◌}
+--   ops_reversible, images_small, signs_more, permutation_told
+--       six turns of a permutation of three columns lead back
+use Rattle.std.proofs.Common.{◌≡◌, ℕ, ◌+◌, ◌<◌, ◌≤◌, ◌^◌, List, length, zero, suc, arith, ap, sym, ◌∙◌, refl, subst, lit<, ◌⊎◌, inl, inr, ◌≢◌}
+use Rattle.tensor_rank.proofs.ExchangeLaws.{digit_below, power_small}
 use Rattle.tensor_rank.specs.Digits.{digit_of, number_of}
 use Rattle.tensor_rank.specs.DigitLaws.{number_of-same, number_of-below, number_of-digits, digit_of-number}
 use Rattle.sign_moves.specs.Moves.{IsReversible, Reaches, stay, move}
@@ -9,12 +12,9 @@ use Rattle.tensor_defs.specs.declared.Sign.{Sign}
 use Rattle.constraint_rows.specs.declared.ops.PlainOp.{PlainOp}
 use Rattle.constraint_rows.specs.PlainOps.{image, entry_sign, signs_of, op_carried, op_sign, HasColumns, IsPermutation, ArePermutations, op_at, op_moves}
 
-digit_small : (r c p : ℕ) → digit_of r c p < 3
-digit_small r c p = omega arith
-
 pub op_carried_within : (r : ℕ) (op : PlainOp) → HasColumns op → (c : ℕ) → op_carried r op c < 3 ^ r
 unfolding op_carried
-op_carried_within r op h c = number_of-below r (λ p. image op (digit_of r c p)) (λ p _. h.small (digit_of r c p) (digit_small r c p))
+op_carried_within r op h c = number_of-below r (λ p. image op (digit_of r c p)) (λ p _. h.small (digit_of r c p) (digit_below r c p))
 
 -- ---- six turns of a permutation of three columns lead back
 cases_3 : (n : ℕ) → n < 3 → (n ≡ 0) ⊎ ((n ≡ 1) ⊎ (n ≡ 2))
@@ -105,7 +105,7 @@ again_below r op h (suc n) c l = again_below r op h n (op_carried r op c) (op_ca
 
 carried_digit : (r : ℕ) (op : PlainOp) → HasColumns op → (c p : ℕ) → p < r → digit_of r (op_carried r op c) p ≡ image op (digit_of r c p)
 unfolding op_carried
-carried_digit r op h c p l = digit_of-number r (λ q. image op (digit_of r c q)) (λ q _. h.small (digit_of r c q) (digit_small r c q)) p l
+carried_digit r op h c p l = digit_of-number r (λ q. image op (digit_of r c q)) (λ q _. h.small (digit_of r c q) (digit_below r c q)) p l
 
 again_digit : (r : ℕ) (op : PlainOp) → HasColumns op → (n c p : ℕ) → p < r → digit_of r (again r op n c) p ≡ turns (image op) n (digit_of r c p)
 again_digit r op h zero c p l = refl
@@ -114,7 +114,7 @@ again_digit r op h (suc n) c p l = again_digit r op h n (op_carried r op c) p l 
 again_home : (r : ℕ) (op : PlainOp) → IsPermutation op → (c : ℕ) → c < 3 ^ r → again r op 6 c ≡ c
 again_home r op h c l =
     sym (number_of-digits r (again r op 6 c) (again_below r op h.columns 6 c l))
-    ∙ number_of-same r (digit_of r (again r op 6 c)) (digit_of r c) (λ p m. again_digit r op h.columns 6 c p m ∙ six_turns (image op) h.columns.small h.injective (digit_of r c p) (digit_small r c p))
+    ∙ number_of-same r (digit_of r (again r op 6 c)) (digit_of r c) (λ p m. again_digit r op h.columns 6 c p m ∙ six_turns (image op) h.columns.small h.injective (digit_of r c p) (digit_below r c p))
     ∙ number_of-digits r c l
 
 again_reaches : (r : ℕ) (ops : List PlainOp) (k : ℕ) → k < length ops → (n c : ℕ) → (s : Sign) × Reaches (op_moves r ops) c (again r (op_at ops k) n c) s
@@ -131,25 +131,11 @@ ops_reversible n r ops size h = record {
       (path.0, subst (λ d. Reaches (op_moves r ops) (op_carried r (op_at ops k) c) d path.0) (again_home r (op_at ops k) (h.each k is) c (rw size at below)) path.1);
 }
 
-pub power_small : (k : ℕ) → k ≤ 6 → 3 ^ k ≤ 729
-power_small zero h = lit≤ tt
-power_small (suc zero) h = lit≤ tt
-power_small (suc (suc zero)) h = lit≤ tt
-power_small (suc (suc (suc zero))) h = lit≤ tt
-power_small (suc (suc (suc (suc zero)))) h = lit≤ tt
-power_small (suc (suc (suc (suc (suc zero))))) h = lit≤ tt
-power_small (suc (suc (suc (suc (suc (suc zero)))))) h = lit≤ tt
-power_small (suc (suc (suc (suc (suc (suc (suc k))))))) h = absurd (omega arith)
-
 pub images_small : (r k c : ℕ) (op : PlainOp) → HasColumns op → k ≤ 6 → number_of k (λ p. image op (digit_of r c p)) < 729
 images_small r k c op h few =
-    let below : number_of k (λ p. image op (digit_of r c p)) < 3 ^ k = number_of-below k (λ p. image op (digit_of r c p)) (λ p _. h.small (digit_of r c p) (digit_small r c p)) in
+    let below : number_of k (λ p. image op (digit_of r c p)) < 3 ^ k = number_of-below k (λ p. image op (digit_of r c p)) (λ p _. h.small (digit_of r c p) (digit_below r c p)) in
     let small : 3 ^ k ≤ 729 = power_small k few in
     omega arith
-
-pub number_more : (k : ℕ) (f : ℕ → ℕ) (n d : ℕ) → n ≡ number_of k f → d ≡ f k → 3 * n + d ≡ number_of (k + 1) f
-unfolding number_of
-number_more k f n d e h = rw (add-one, e, h) refl
 
 pub signs_more : (k : ℕ) (op : PlainOp) (digit : ℕ → ℕ) (s t : Sign) → s ≡ signs_of op digit k → t ≡ entry_sign op (digit k) → times s t ≡ signs_of op digit (k + 1)
 signs_more k op digit s t e h =

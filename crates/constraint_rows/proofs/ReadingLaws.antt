@@ -1,31 +1,24 @@
 -- What the code reads of a signed permutation matrix stands for it.
+--   row_reads    one row
+--   three_stand    three rows stand for the operation
 use Rattle.std.proofs.Common.{◌≡◌, ◌≢◌, Bool, true, false, cond, get_or, refl, ap, sym, ◌∙◌, subst, ◌⊎◌, inl, inr, lit<}
-use lib.IntN.{ℤ, pos, negsuc}
-use lib.Signed.{lt_z}
-use mir.Syntax.{w8}
-use mir.Val.{to_z, of_z}
-use Rattle.tensor_defs.specs.IntRing.{mul-one_ℤ}
-use Rattle.tensor_defs.specs.Number.{Number, mul, neg, num_zero, num_one, whole}
+use Rattle.tensor_laws.proofs.ActionLaws.{half_of_two, half_of_minus_two}
+use Rattle.tensor_defs.specs.Number.{Number, neg, num_zero, num_one, whole}
 use Rattle.tensor_defs.specs.Frames.{IsUnit, OneUnit, IsPlain}
 use Rattle.tensor_defs.specs.Operation as defs
-use Rattle.tensor_defs.specs.Operation.{Axis, x1, x2, x3, Operation, entry, value, determinant}
-use Rattle.tensor_defs.specs.Tensor.{Marks, sign, axis_place, axis_at, axial_sign, time_sign}
-use Rattle.tensor_defs.specs.declared.Sign.{Sign}
+use Rattle.tensor_defs.specs.Operation.{Axis, x1, x2, x3, Operation, entry, value}
+use Rattle.tensor_defs.specs.Tensor.{Marks, sign, axis_place, axis_at}
 use Rattle.tensor_defs.specs.declared.Sign.TheVariants.{Plus, Minus}
-use Rattle.number_laws.proofs.NumberLaws.{num_mul-one}
-use Rattle.number_laws.proofs.Sameness.{numbers_are_same_lem}
 use Rattle.op_matrix.specs.declared.entry.Entry.{Entry}
 use Rattle.op_matrix.specs.declared.entry.Entry.TheVariants.{One, HalfRoot3, Half, Zero, MinusHalf, MinusHalfRoot3, MinusOne}
 use Rattle.op_matrix.specs.View.{entry_of}
 use Rattle.op_matrix.proofs.Frames.{same_entry_of}
-use Rattle.sign_moves.specs.Signs.{signed, times}
-use Rattle.sign_moves.proofs.SignLaws.{signed-signed}
+use Rattle.sign_moves.specs.Signs.{signed}
 use Rattle.constraint_rows.specs.declared.ops.PlainOp.{PlainOp}
 use Rattle.constraint_rows.specs.PlainOps.{image, entry_sign, StandsFor}
 use Rattle.constraint_rows.specs.Reading.{RowReads, unit_column, row_negates}
-use Rattle.constraint_rows.proofs.OpIndex.{signed_mul}
 use Rattle.constraint_rows.proofs.OpLaws.{permutation_told}
-use Rattle.constraint_rows.proofs.StandLaws.{number_at, at_one, at_minus, zero_number, determinant_unit, apart_columns}
+use Rattle.constraint_rows.proofs.StandLaws.{number_at, zero_number, apart_columns}
 
 -- ---- entries of the code
 unit_code : (e : Entry) → IsUnit (entry_of e) → (e ≡ One) ⊎ (e ≡ MinusOne)
@@ -88,10 +81,10 @@ module _ (f : Axis → Number) where
   code_zero e p x is = is ∙ zero_number (entry_of e) p
 
   code_one : (e : Entry) → e ≡ One → (x : Axis) → f x ≡ number_at (entry_of e) → f x ≡ num_one
-  code_one e p x is = is ∙ ap (λ y. number_at (entry_of y)) p ∙ at_one
+  code_one e p x is = is ∙ ap (λ y. number_at (entry_of y)) p ∙ half_of_two
 
   code_minus : (e : Entry) → e ≡ MinusOne → (x : Axis) → f x ≡ number_at (entry_of e) → f x ≡ neg num_one
-  code_minus e p x is = is ∙ ap (λ y. number_at (entry_of y)) p ∙ at_minus
+  code_minus e p x is = is ∙ ap (λ y. number_at (entry_of y)) p ∙ half_of_minus_two
 
   row_of_code : (a b c : Entry) → f x1 ≡ number_at (entry_of a) → f x2 ≡ number_at (entry_of b) → f x3 ≡ number_at (entry_of c) →
       OneUnit (entry_of a) (entry_of b) (entry_of c) → RowReads f (unit_column a b) (row_negates a b c)
@@ -114,54 +107,6 @@ unfolding value
 row_reads g i a b c h p q s =
     row_of_code (value g i) a b c (ap number_at (sym p)) (ap number_at (sym q)) (ap number_at (sym s))
     (subst (λ x. OneUnit x (entry_of b) (entry_of c)) (sym p) (subst (λ y. OneUnit (entry g i x1) y (entry_of c)) (sym q) (subst (λ z. OneUnit (entry g i x1) (entry g i x2) z) (sym s) (h.rows i))))
-
--- ---- the sign for the whole tensor
-one_down : neg num_one ≡ whole (negsuc 0)
-one_down = num_mul-one (whole (negsuc 0))
-
-whole_told : (d e : ℤ) → whole d ≡ whole e → d ≡ e
-unfolding whole
-whole_told d e p =
-    let same = (numbers_are_same_lem _ _).0 p in
-    sym (mul-one_ℤ d) ∙ same.same_p ∙ mul-one_ℤ e
-
--- whether a determinant, as the code holds it, is below 0
-abbrev below_zero : ℤ → Bool
-below_zero d = lt_z (to_z w8 (of_z w8 d)) (pos 0)
-
-pub determinant_minus : (g : Operation) (d : ℤ) → IsPlain g → determinant (value g) ≡ whole d → below_zero d ≡ true →
-    determinant (value g) ≡ neg num_one
-determinant_minus g d h p below = by_sign (determinant_unit g h)
-  where
-    by_sign : (s : Sign) × (determinant (value g) ≡ signed s num_one) → determinant (value g) ≡ neg num_one
-    by_sign (Plus, e) =
-        let is : d ≡ pos 1 = whole_told d (pos 1) (sym p ∙ e) in
-        let t : false ≡ true = subst (λ (x : ℤ). below_zero x ≡ true) is below in
-        cc
-    by_sign (Minus, e) = e
-
-pub determinant_plus : (g : Operation) (d : ℤ) → IsPlain g → determinant (value g) ≡ whole d → below_zero d ≡ false →
-    determinant (value g) ≡ num_one
-determinant_plus g d h p below = by_sign (determinant_unit g h)
-  where
-    by_sign : (s : Sign) × (determinant (value g) ≡ signed s num_one) → determinant (value g) ≡ num_one
-    by_sign (Plus, e) = e
-    by_sign (Minus, e) =
-        let is : d ≡ negsuc 0 = whole_told d (negsuc 0) (sym p ∙ e ∙ one_down) in
-        let t : true ≡ false = subst (λ (x : ℤ). below_zero x ≡ false) is below in
-        cc
-
-pub axial_on : (e : Bool) (g : Operation) (x : Number) → e ≡ true → determinant (value g) ≡ x → axial_sign e g ≡ x
-axial_on e g x on is = ap (λ b. axial_sign b g) on ∙ is
-
-pub axial_off : (e : Bool) (g : Operation) → e ≡ false → axial_sign e g ≡ num_one
-axial_off e g off = ap (λ b. axial_sign b g) off
-
-pub whole_sign : (m : Marks) (g : Operation) (a b w : Sign) → axial_sign m.axial g ≡ signed a num_one → time_sign m.magnetic g.primed ≡ signed b num_one →
-    w ≡ times a b → sign m g ≡ signed w num_one
-unfolding sign
-whole_sign m g a b w p q e =
-    (λ n. mul (p n) (q n)) ∙ signed_mul a (signed b num_one) ∙ signed-signed a b num_one ∙ ap (λ s. signed s num_one) (sym e)
 
 -- ---- three rows stand for the operation
 pub three_stand : (m : Marks) (g : Operation) (p : PlainOp) → IsPlain g →

@@ -1,6 +1,12 @@
 -- A table of first components under a symbol's exchanges, marked by diagonal elements, tells the representatives.
-use Rattle.std.proofs.Common.{◌≡◌, ℕ, ◌^◌, ◌<◌, Bool, true, false, cond, List, [], refl, ap, sym, ◌∙◌, arith, subst, ◌⊎◌, inl, inr}
+--   marked_settled, marked_sound    a marked table is sound
+--   marked_representatives    and tells the representatives
+--   IsAxisTable, axis_made, axis_settled, axis_sound, axis_representatives    for the numbers of a typed rank
+use Rattle.std.proofs.Common.{[], ◌≡◌, ℕ, ◌^◌, ◌<◌, Bool, true, false, cond, List, refl, ap, sym, ◌∙◌, arith, subst, ◌⊎◌, inl, inr}
 use Rattle.std.specs.Prelude.{Option, Some, None}
+use Rattle.std.proofs.lemmas.Bool.{cases_Bool, both_ways}
+use Rattle.tensor_rank.specs.Exchanges.{exchange_moves}
+use Rattle.list_laws.proofs.Tests.{same_truth}
 use Rattle.tensor_defs.specs.Elimination.{AreRepresentatives, IsDropped, IsRepresentative, IsSign}
 use Rattle.tensor_defs.specs.Frames.{AllOf, IsPlain}
 use Rattle.tensor_defs.specs.Jahn.{JahnSymbol, rank, body_brackets, HasSymmetry, IsInvariant}
@@ -16,9 +22,8 @@ use Rattle.sign_moves.specs.Classes.{entry_at, first_at, sign_at, vanishes_at}
 use Rattle.sign_moves.specs.Firsts.{AreSettled, IsFirstTable}
 use Rattle.sign_moves.specs.Moves.{IsReversible}
 use Rattle.sign_moves.specs.Signs.{signed}
-use Rattle.sign_moves.proofs.EngineLaws.{bool_cases}
 use Rattle.sign_moves.proofs.FirstLaws.{first_same, firsts_tell}
-use Rattle.sign_moves.proofs.JoinedLaws.{joined_reversible}
+use Rattle.sign_moves.proofs.JoinedLaws.{joined_reversible, first_joined}
 use Rattle.tensor_rank.specs.declared.exchanges.Exchange.{Exchange}
 use Rattle.tensor_rank.specs.IndexLaws.{component_below_at, index_number_at}
 use Rattle.tensor_rank.specs.Orders.{Ordering, before_at, before_of}
@@ -30,7 +35,7 @@ use Rattle.tensor_rank.proofs.ExchangeIndex.{numbered}
 use Rattle.tensor_rank.proofs.ExchangeLaws.{exchanges_reversible}
 use Rattle.constraint_rows.specs.Classes.{IsGeneratedBy, class_at, moves_of}
 use Rattle.constraint_rows.specs.Marking.{AreMarked, IsMarked}
-use Rattle.constraint_rows.specs.PlainOps.{StandForAll}
+use Rattle.constraint_rows.specs.PlainOps.{StandForAll, op_moves}
 use Rattle.constraint_rows.specs.WordRows.{AreSound, IsKilled, IsOwn, carried_to, carrier_of}
 use Rattle.constraint_rows.proofs.ClassLaws.{not_zero_by_table, path_carried, turned_class, zero_by_table}
 use Rattle.constraint_rows.proofs.DiagonalLaws.{killed_along, own_carried}
@@ -46,14 +51,6 @@ class_told false x d s e = let same : x ≡ (d, s) = cc in (refl, ap (λ y. y.0)
 class_none : (b : Bool) (x : ℕ × Sign) → cond b None (Some x) ≡ None → b ≡ true
 class_none true x e = refl
 class_none false x e = cc
-
-bool_same : (a b : Bool) → (a ≡ true → b ≡ true) → (b ≡ true → a ≡ true) → a ≡ b
-bool_same true b f g = sym (f refl)
-bool_same false true f g = g refl
-bool_same false false f g = refl
-
-not_both : (b : Bool) → b ≡ false → b ≡ true → ⊥
-not_both b f t = cc
 
 -- ---- a marked table is sound
 module _ (n r : ℕ) (size : n ≡ 3 ^ r) (m : Marks) (hs : List Operation) (xs : List Exchange) (within : AllWithin r xs) (o : Ordering)
@@ -77,7 +74,7 @@ module _ (n r : ℕ) (size : n ≡ 3 ^ r) (m : Marks) (hs : List Operation) (xs 
       let l : f < n = settled.below c h in
       let own : first_at es f ≡ f = settled.own c h in
       let same : vanishes_at es f ≡ vanishes_at es c = settled.together c h in
-      bool_same (vanishes_at new f) (vanishes_at new c)
+      same_truth (vanishes_at new f) (vanishes_at new c)
       (λ v. (at c h).vanishes.1 (elim ((at f l).vanishes.0 v) as (λ _. (vanishes_at es c ≡ true) ⊎ IsKilled m (In hs) (index_of r f)) [
         | inl p ↦ inl (sym same ∙ p)
         | inr p ↦ inr (subst (λ k. IsKilled m (In hs) (index_of r k)) own p)
@@ -176,7 +173,7 @@ module _ (j : JahnSymbol) (hs : List Operation) (o : Ordering) (es new : List En
   ]
 
   is_dropped : (k : ℕ) → k < 3 ^ rank j → IsDropped j (In hs) (index_of (rank j) k) → vanishes_at new k ≡ true
-  is_dropped k h (inl z) = elim (bool_cases (vanishes_at es k)) as (λ _. vanishes_at new k ≡ true) [
+  is_dropped k h (inl z) = elim (cases_Bool (vanishes_at es k)) as (λ _. vanishes_at new k ≡ true) [
     | inl v ↦ (entry_marked k h).vanishes.1 (inl v)
     | inr v ↦ absurd (not_zero_by_table j [] [] [] (none_stand j.marks) inside none_generated none_plain o es back table k h v
         (record { zero = λ t inv. z t inv.symmetric }))
@@ -186,8 +183,8 @@ module _ (j : JahnSymbol) (hs : List Operation) (o : Ordering) (es new : List En
       (entry_marked k h).vanishes.1 (inr (killed_along (same_coefficient k h) here))
 
   not_vanishing : (k : ℕ) → k < 3 ^ rank j → vanishes_at new k ≡ false → vanishes_at es k ≡ false
-  not_vanishing k h v = elim (bool_cases (vanishes_at es k)) as (λ _. vanishes_at es k ≡ false) [
-    | inl t ↦ absurd (not_both (vanishes_at new k) v ((entry_marked k h).vanishes.1 (inl t)))
+  not_vanishing k h v = elim (cases_Bool (vanishes_at es k)) as (λ _. vanishes_at es k ≡ false) [
+    | inl t ↦ absurd (both_ways (vanishes_at new k) v ((entry_marked k h).vanishes.1 (inl t)))
     | inr f ↦ f
   ]
 
@@ -208,7 +205,7 @@ module _ (j : JahnSymbol) (hs : List Operation) (o : Ordering) (es new : List En
         let class = turned_class j [] [] [] (none_stand j.marks) inside none_generated none_plain o es back table k h v n below s.0 (λ t inv.
         tied t inv.symmetric ∙ ap (λ x. mul x (t e)) s.1 ∙ signed_mul s.0 (t e) ∙ ap (λ y. signed s.0 (t y)) (sym there)) in
         let not_less : before_of o (index_of (rank j) n) (index_of (rank j) (first_at es k)) ≡ false = table.least k n h below class.0 in
-        not_both (before_of o e (index_of (rank j) (first_at es k)))
+        both_ways (before_of o e (index_of (rank j) (first_at es k)))
         (ap (λ y. before_of o y (index_of (rank j) (first_at es k))) (sym there) ∙ not_less) less;
   }
 
@@ -244,13 +241,13 @@ pub record IsAxisTable (n r : ℕ) (hs : List Operation) (s : ShapeValue) (o : O
   pub firsts : IsFirstTable n (moves_of r s.exchanges []) (before_at r o) table
   pub marked : AreMarked r s.marks hs table new
 
-pub axis_made : {n r : ℕ} {hs : List Operation} {s : ShapeValue} {o : Ordering} {xs : List Exchange} {m : Marks} {es ds new : List Entry} →
-    xs ≡ s.exchanges → AllWithin r xs → IsFirstTable n (moves_of r xs []) (before_at r o) es → m ≡ s.marks → ds ≡ es →
+pub axis_made : {n r : ℕ} {hs : List Operation} {s : ShapeValue} {o : Ordering} {m : Marks} {es ds new : List Entry} →
+    AllWithin r s.exchanges → IsFirstTable n (exchange_moves r s.exchanges) (before_at r o) es → m ≡ s.marks → ds ≡ es →
     AreMarked r m hs ds new → IsAxisTable n r hs s o new
-axis_made {n} {r} {hs} {s} {o} {xs} {m} {es} {ds} {new} shown within firsts marks same marked = record {
+axis_made {n} {r} {hs} {s} {o} {m} {es} {ds} {new} within firsts marks same marked = record {
   table = es;
-  within = subst (λ (ys : List Exchange). AllWithin r ys) shown within;
-  firsts = subst (λ (ys : List Exchange). IsFirstTable n (moves_of r ys []) (before_at r o) es) shown firsts;
+  within = within;
+  firsts = first_joined n (exchange_moves r s.exchanges) (op_moves r []) (before_at r o) es refl firsts;
   marked = subst (λ (x : Marks). AreMarked r x hs es new) marks (subst (λ (ys : List Entry). AreMarked r m hs ys new) same marked);
 }
 

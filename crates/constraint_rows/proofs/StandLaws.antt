@@ -1,8 +1,18 @@
 -- A signed permutation matrix has a stand-in.
+--   number_at    the number of an entry
+--   RowStands    a row of three numbers with one that is 1 or -1
+--   apart_columns    two rows of a plain matrix have their entries in two columns
+--   plain_stands    each signed permutation matrix has a stand-in
 use Rattle.std.proofs.Common.{◌≡◌, ◌≢◌, Bool, true, false, cond, [], ◌∷◌, refl, ap, sym, ◌∙◌, inl, inr}
-use lib.IntN.{pos, negsuc}
-use Rattle.tensor_defs.specs.Number.{Number, add, mul, neg, num_zero, num_one, whole, half_of, same_numbers}
-use Rattle.number_laws.proofs.NumberLaws.{num_zero-mul, num_mul-zero, num_add-zero, num_zero-add}
+use lib.IntN.{negsuc}
+use Rattle.op_matrix.specs.Table.{place}
+use Rattle.op_matrix.proofs.Listed.{Placed, plain_placed}
+use Rattle.op_matrix.proofs.Determinants.{unit_determinant}
+use Rattle.tensor_laws.proofs.ActionLaws.{half_of_two, half_of_none, half_of_minus_two}
+use Rattle.tensor_laws.proofs.Indices.{axis_cases}
+use Rattle.tensor_laws.proofs.ComponentNumbers.{axis_at-place}
+use Rattle.tensor_defs.specs.Number.{Number, mul, num_zero, num_one, whole, half_of}
+use Rattle.number_laws.proofs.NumberLaws.{num_mul-one}
 use Rattle.tensor_defs.specs.Operation.{Axis, x1, x2, x3, Entry, Operation, entry, value, determinant, nought}
 use Rattle.tensor_defs.specs.Tensor.{Marks, sign, axial_sign, time_sign}
 use Rattle.tensor_defs.specs.Frames.{IsUnit, OneUnit, IsPlain}
@@ -11,35 +21,22 @@ use Rattle.tensor_defs.specs.declared.Sign.{Sign}
 use Rattle.tensor_defs.specs.declared.Sign.TheVariants.{Plus, Minus}
 use Rattle.sign_moves.specs.Signs.{signed, times}
 use Rattle.sign_moves.proofs.SignLaws.{signed-signed, sign_not_zero}
-use Rattle.constraint_rows.proofs.AxisLaws.{same_axis, axis_at-place}
 use Rattle.constraint_rows.proofs.OpIndex.{signed_mul}
 use Rattle.constraint_rows.specs.declared.ops.PlainOp.{PlainOp}
 use Rattle.constraint_rows.specs.PlainOps.{image, entry_sign, IsPermutation, StandsFor}
 use Rattle.constraint_rows.proofs.OpLaws.{permutation_told}
 use Rattle.tensor_rank.specs.IndexLaws.{place_below}
 
-pub at_one : half_of (pos 2) (pos 0) ≡ num_one
-unfolding half_of whole
-at_one = same_numbers _ _ (record { same_p = refl; same_q = refl })
-
-pub at_zero : half_of (pos 0) (pos 0) ≡ num_zero
-unfolding half_of whole
-at_zero = same_numbers _ _ (record { same_p = refl; same_q = refl })
-
-pub at_minus : half_of (negsuc 1) (pos 0) ≡ neg num_one
-unfolding half_of whole mul
-at_minus = same_numbers _ _ (record { same_p = refl; same_q = refl })
-
 -- the number of an entry
 abbrev pub number_at : Entry → Number
 number_at e = half_of e.rational e.root
 
 unit_number : (e : Entry) → IsUnit e → (s : Sign) × (number_at e ≡ signed s num_one)
-unit_number e (inl p) = (Plus, ap number_at p ∙ at_one)
-unit_number e (inr p) = (Minus, ap number_at p ∙ at_minus)
+unit_number e (inl p) = (Plus, ap number_at p ∙ half_of_two)
+unit_number e (inr p) = (Minus, ap number_at p ∙ half_of_minus_two)
 
 pub zero_number : (e : Entry) → e ≡ nought → number_at e ≡ num_zero
-zero_number e p = ap number_at p ∙ at_zero
+zero_number e p = ap number_at p ∙ half_of_none
 
 -- a row of three numbers with one that is 1 or -1
 pub record RowStands (f : Axis → Number) : Type 0 where
@@ -82,71 +79,12 @@ pub column_stands : (g : Operation) → IsPlain g → (j : Axis) → RowStands (
 unfolding value
 column_stands g h j = row_of_unit (entry g x1 j) (entry g x2 j) (entry g x3 j) (λ i. value g i j) refl refl refl (h.columns j)
 
--- the determinant of nine numbers
-abbrev det : (a b c d e f g h i : Number) → Number
-det a b c d e f g h i = add (mul a (add (mul e i) (neg (mul f h)))) (add (mul b (add (mul f g) (neg (mul d i)))) (mul c (add (mul d h) (neg (mul e g)))))
-
-even_unit : (s t u : Sign) → mul (signed s num_one) (mul (signed t num_one) (signed u num_one)) ≡ signed (times s (times t u)) num_one
-even_unit s t u = signed_mul s (mul (signed t num_one) (signed u num_one)) ∙ ap (signed s) (signed_mul t (signed u num_one)) ∙ ap (signed s) (signed-signed t u num_one) ∙ signed-signed s (times t u) num_one
-
-odd_unit : (s t u : Sign) → mul (signed s num_one) (neg (mul (signed t num_one) (signed u num_one))) ≡ signed (times s (times Minus (times t u))) num_one
-odd_unit s t u = signed_mul s (neg (mul (signed t num_one) (signed u num_one))) ∙ ap (λ x. signed s (neg x)) (signed_mul t (signed u num_one) ∙ signed-signed t u num_one) ∙ ap (signed s) (signed-signed Minus (times t u) num_one) ∙ signed-signed s (times Minus (times t u)) num_one
-
-det_123 : (a e i : Number) → det a num_zero num_zero num_zero e num_zero num_zero num_zero i ≡ mul a (mul e i)
-det_123 a e i = simp (num_zero-mul, num_mul-zero, num_add-zero, num_zero-add)
-
-det_132 : (a f h : Number) → det a num_zero num_zero num_zero num_zero f num_zero h num_zero ≡ mul a (neg (mul f h))
-det_132 a f h = simp (num_zero-mul, num_mul-zero, num_add-zero, num_zero-add)
-
-det_231 : (b f g : Number) → det num_zero b num_zero num_zero num_zero f g num_zero num_zero ≡ mul b (mul f g)
-det_231 b f g = simp (num_zero-mul, num_mul-zero, num_add-zero, num_zero-add)
-
-det_213 : (b d i : Number) → det num_zero b num_zero d num_zero num_zero num_zero num_zero i ≡ mul b (neg (mul d i))
-det_213 b d i = simp (num_zero-mul, num_mul-zero, num_add-zero, num_zero-add)
-
-det_312 : (c d h : Number) → det num_zero num_zero c d num_zero num_zero num_zero h num_zero ≡ mul c (mul d h)
-det_312 c d h = simp (num_zero-mul, num_mul-zero, num_add-zero, num_zero-add)
-
-det_321 : (c e g : Number) → det num_zero num_zero c num_zero e num_zero g num_zero num_zero ≡ mul c (neg (mul e g))
-det_321 c e g = simp (num_zero-mul, num_mul-zero, num_add-zero, num_zero-add)
-
-module _ (a : Axis → Axis → Number) where
-  det_unit : (c1 c2 c3 : Axis) (s1 s2 s3 : Sign) → a x1 c1 ≡ signed s1 num_one → a x2 c2 ≡ signed s2 num_one → a x3 c3 ≡ signed s3 num_one
-      → ((j : Axis) → j ≢ c1 → a x1 j ≡ num_zero) → ((j : Axis) → j ≢ c2 → a x2 j ≡ num_zero) → ((j : Axis) → j ≢ c3 → a x3 j ≡ num_zero) → c1 ≢ c2 → c1 ≢ c3 → c2 ≢ c3 → (s : Sign) × (determinant a ≡ signed s num_one)
-  det_unit x1 x1 x1 s1 s2 s3 e1 e2 e3 o1 o2 o3 n12 n13 n23 = absurd (n12 refl)
-  det_unit x1 x1 x2 s1 s2 s3 e1 e2 e3 o1 o2 o3 n12 n13 n23 = absurd (n12 refl)
-  det_unit x1 x1 x3 s1 s2 s3 e1 e2 e3 o1 o2 o3 n12 n13 n23 = absurd (n12 refl)
-  det_unit x1 x2 x1 s1 s2 s3 e1 e2 e3 o1 o2 o3 n12 n13 n23 = absurd (n13 refl)
-  det_unit x1 x2 x2 s1 s2 s3 e1 e2 e3 o1 o2 o3 n12 n13 n23 = absurd (n23 refl)
-  det_unit x1 x2 x3 s1 s2 s3 e1 e2 e3 o1 o2 o3 n12 n13 n23 = (times s1 (times s2 s3), (λ n. det (e1 n) (o1 x2 (λ q. cc) n) (o1 x3 (λ q. cc) n) (o2 x1 (λ q. cc) n) (e2 n) (o2 x3 (λ q. cc) n) (o3 x1 (λ q. cc) n) (o3 x2 (λ q. cc) n) (e3 n)) ∙ det_123 (signed s1 num_one) (signed s2 num_one) (signed s3 num_one) ∙ even_unit s1 s2 s3)
-  det_unit x1 x3 x1 s1 s2 s3 e1 e2 e3 o1 o2 o3 n12 n13 n23 = absurd (n13 refl)
-  det_unit x1 x3 x2 s1 s2 s3 e1 e2 e3 o1 o2 o3 n12 n13 n23 = (times s1 (times Minus (times s2 s3)), (λ n. det (e1 n) (o1 x2 (λ q. cc) n) (o1 x3 (λ q. cc) n) (o2 x1 (λ q. cc) n) (o2 x2 (λ q. cc) n) (e2 n) (o3 x1 (λ q. cc) n) (e3 n) (o3 x3 (λ q. cc) n)) ∙ det_132 (signed s1 num_one) (signed s2 num_one) (signed s3 num_one) ∙ odd_unit s1 s2 s3)
-  det_unit x1 x3 x3 s1 s2 s3 e1 e2 e3 o1 o2 o3 n12 n13 n23 = absurd (n23 refl)
-  det_unit x2 x1 x1 s1 s2 s3 e1 e2 e3 o1 o2 o3 n12 n13 n23 = absurd (n23 refl)
-  det_unit x2 x1 x2 s1 s2 s3 e1 e2 e3 o1 o2 o3 n12 n13 n23 = absurd (n13 refl)
-  det_unit x2 x1 x3 s1 s2 s3 e1 e2 e3 o1 o2 o3 n12 n13 n23 = (times s1 (times Minus (times s2 s3)), (λ n. det (o1 x1 (λ q. cc) n) (e1 n) (o1 x3 (λ q. cc) n) (e2 n) (o2 x2 (λ q. cc) n) (o2 x3 (λ q. cc) n) (o3 x1 (λ q. cc) n) (o3 x2 (λ q. cc) n) (e3 n)) ∙ det_213 (signed s1 num_one) (signed s2 num_one) (signed s3 num_one) ∙ odd_unit s1 s2 s3)
-  det_unit x2 x2 x1 s1 s2 s3 e1 e2 e3 o1 o2 o3 n12 n13 n23 = absurd (n12 refl)
-  det_unit x2 x2 x2 s1 s2 s3 e1 e2 e3 o1 o2 o3 n12 n13 n23 = absurd (n12 refl)
-  det_unit x2 x2 x3 s1 s2 s3 e1 e2 e3 o1 o2 o3 n12 n13 n23 = absurd (n12 refl)
-  det_unit x2 x3 x1 s1 s2 s3 e1 e2 e3 o1 o2 o3 n12 n13 n23 = (times s1 (times s2 s3), (λ n. det (o1 x1 (λ q. cc) n) (e1 n) (o1 x3 (λ q. cc) n) (o2 x1 (λ q. cc) n) (o2 x2 (λ q. cc) n) (e2 n) (e3 n) (o3 x2 (λ q. cc) n) (o3 x3 (λ q. cc) n)) ∙ det_231 (signed s1 num_one) (signed s2 num_one) (signed s3 num_one) ∙ even_unit s1 s2 s3)
-  det_unit x2 x3 x2 s1 s2 s3 e1 e2 e3 o1 o2 o3 n12 n13 n23 = absurd (n13 refl)
-  det_unit x2 x3 x3 s1 s2 s3 e1 e2 e3 o1 o2 o3 n12 n13 n23 = absurd (n23 refl)
-  det_unit x3 x1 x1 s1 s2 s3 e1 e2 e3 o1 o2 o3 n12 n13 n23 = absurd (n23 refl)
-  det_unit x3 x1 x2 s1 s2 s3 e1 e2 e3 o1 o2 o3 n12 n13 n23 = (times s1 (times s2 s3), (λ n. det (o1 x1 (λ q. cc) n) (o1 x2 (λ q. cc) n) (e1 n) (e2 n) (o2 x2 (λ q. cc) n) (o2 x3 (λ q. cc) n) (o3 x1 (λ q. cc) n) (e3 n) (o3 x3 (λ q. cc) n)) ∙ det_312 (signed s1 num_one) (signed s2 num_one) (signed s3 num_one) ∙ even_unit s1 s2 s3)
-  det_unit x3 x1 x3 s1 s2 s3 e1 e2 e3 o1 o2 o3 n12 n13 n23 = absurd (n13 refl)
-  det_unit x3 x2 x1 s1 s2 s3 e1 e2 e3 o1 o2 o3 n12 n13 n23 = (times s1 (times Minus (times s2 s3)), (λ n. det (o1 x1 (λ q. cc) n) (o1 x2 (λ q. cc) n) (e1 n) (o2 x1 (λ q. cc) n) (e2 n) (o2 x3 (λ q. cc) n) (e3 n) (o3 x2 (λ q. cc) n) (o3 x3 (λ q. cc) n)) ∙ det_321 (signed s1 num_one) (signed s2 num_one) (signed s3 num_one) ∙ odd_unit s1 s2 s3)
-  det_unit x3 x2 x2 s1 s2 s3 e1 e2 e3 o1 o2 o3 n12 n13 n23 = absurd (n23 refl)
-  det_unit x3 x2 x3 s1 s2 s3 e1 e2 e3 o1 o2 o3 n12 n13 n23 = absurd (n13 refl)
-  det_unit x3 x3 x1 s1 s2 s3 e1 e2 e3 o1 o2 o3 n12 n13 n23 = absurd (n12 refl)
-  det_unit x3 x3 x2 s1 s2 s3 e1 e2 e3 o1 o2 o3 n12 n13 n23 = absurd (n12 refl)
-  det_unit x3 x3 x3 s1 s2 s3 e1 e2 e3 o1 o2 o3 n12 n13 n23 = absurd (n12 refl)
-
 -- two rows of a plain matrix have their entries in two columns
 pub apart_columns : (g : Operation) (h : IsPlain g) (i k : Axis) → i ≢ k → (c : Axis) (s t : Sign) → value g i c ≡ signed s num_one →
     value g k c ≡ signed t num_one → ⊥
 apart_columns g h i k n c s t p q =
     let col = column_stands g h c in
-    elim (same_axis i col.column) as (λ _. ⊥) [
+    elim (axis_cases i col.column) as (λ _. ⊥) [
       | inl e ↦ sign_not_zero t (sym q ∙ col.other k (λ u. n (e ∙ sym u)))
       | inr e ↦ sign_not_zero s (sym p ∙ col.other i e)
     ]
@@ -156,12 +94,13 @@ apart g h i k n same =
     apart_columns g h i k n (row_stands g h i).column (row_stands g h i).sign (row_stands g h k).sign
     (row_stands g h i).entry (ap (value g k) same ∙ (row_stands g h k).entry)
 
-pub determinant_unit : (g : Operation) → IsPlain g → (s : Sign) × (determinant (value g) ≡ signed s num_one)
+determinant_unit : (g : Operation) → IsPlain g → (s : Sign) × (determinant (value g) ≡ signed s num_one)
 determinant_unit g h =
-    let a = row_stands g h x1 in
-    let b = row_stands g h x2 in
-    let c = row_stands g h x3 in
-    det_unit (value g) a.column b.column c.column a.sign b.sign c.sign a.entry b.entry c.entry a.other b.other c.other (apart g h x1 x2 (λ e. cc)) (apart g h x1 x3 (λ e. cc)) (apart g h x2 x3 (λ e. cc))
+    let p : Placed g = plain_placed g h in
+    elim (unit_determinant g (place g) p.0 p.1) [
+      | inl e ↦ (Plus, e)
+      | inr e ↦ (Minus, e ∙ sym (num_mul-one (whole (negsuc 0))))
+    ]
 
 -- the sign of the whole
 times_unit : (x y : Number) → (s : Sign) × (x ≡ signed s num_one) → (u : Sign) × (y ≡ signed u num_one) → (s : Sign) × (mul x y ≡ signed s num_one)

@@ -1,10 +1,19 @@
 -- The words by their numbers, and their rows as sums over the components that belong to them.
-use Rattle.std.proofs.Common.{◌≡◌, ◌≢◌, ℕ, zero, suc, ◌+◌, ◌-◌, ◌*◌, ◌/◌, ◌%◌, ◌^◌, ◌<◌, ◌≤◌, Bool, true, false, cond, List, [], ◌∷◌, ◌++◌, length, drop, map, refl, ap, sym, ◌∙◌, arith, subst, inl, inr, eq-eqb, append_assoc, append-nil, lit<}
+--   sum_terms    sums over the components that belong to a word
+--   terms_below, terms_few    the terms of a word: where they are, and how many
+--   row_sum_terms, length_letters, length_word, carried_row    what a component gives to a representative
+--   words_listed    the words in their order
+--   word_unused, word_used    the rows of one more word
+--   letters_more, letter_one, letter_two, letter_three, letter_split, letter_split_back ..
+--       the letters of a word from a place on
+use Rattle.std.proofs.Common.{[], ◌≡◌, ◌≢◌, ℕ, zero, suc, ◌+◌, ◌-◌, ◌*◌, ◌/◌, ◌%◌, ◌^◌, ◌<◌, ◌≤◌, Bool, true, false, cond, List, ◌∷◌, ◌++◌, length, drop, map, refl, ap, sym, ◌∙◌, arith, subst, inl, inr, eq-eqb, append_assoc, append-nil, lit<}
 use Rattle.std.specs.Prelude.{filter, nat_eq, Option, Some, None, unsigned_abs}
-use Rattle.std.proofs.lemmas.Bool.{eqb-true}
+use Rattle.std.proofs.lemmas.Bool.{eqb-true, cases_Bool}
 use Rattle.std.proofs.lemmas.List.{drop_all, map_push, length-append}
 use Rattle.std.proofs.lemmas.List.Elements.{filter-append}
 use Rattle.std.proofs.lemmas.Nat.{div-mul-add, mod-mul-add}
+use Rattle.tensor_laws.proofs.Indices.{same_own, same_told}
+use Rattle.tensor_rank.proofs.ExchangeLaws.{power_small}
 use native.Mathlib.Nat.{pow-suc}
 use lib.IntN.{negsuc}
 use Rattle.number_laws.proofs.NumberLaws.{num_add-zero, num_zero-add, num_add_assoc, num_mul-zero, num_mul-one}
@@ -13,14 +22,13 @@ use Rattle.tensor_defs.specs.Lists.{Each}
 use Rattle.tensor_defs.specs.Number.{Number, add, mul, neg, num_zero, num_one, whole}
 use Rattle.tensor_defs.specs.Operation.{Axis, x1, x2, x3}
 use Rattle.tensor_defs.specs.Tensor.{Index, axis_at, component_number, digit, index_of, same_index, sum_indices}
-use Rattle.tensor_defs.specs.Words.{level, plus, minus, Letter, Word, words, is_used, belongs, twos, minus_twos, power_of_minus_one, even_row, odd_row}
+use Rattle.tensor_defs.specs.Words.{level, plus, minus, Letter, Word, words, belongs, twos, minus_twos, power_of_minus_one, even_row, odd_row}
 use Rattle.tensor_defs.specs.declared.Sign.{Sign}
 use Rattle.tensor_defs.specs.declared.Sign.TheVariants.{Plus, Minus}
 use Rattle.tensor_laws.proofs.Agreeing.{sum_indices-agree}
 use Rattle.tensor_laws.proofs.ComponentNumbers.{length-index_of, number-index_of}
 use Rattle.sign_moves.specs.declared.classes.Entry.{Entry}
 use Rattle.sign_moves.specs.Signs.{times, signed}
-use Rattle.sign_moves.proofs.EngineLaws.{bool_cases}
 use Rattle.sign_moves.proofs.SignLaws.{signed-signed}
 use Rattle.tensor_rank.specs.IndexLaws.{component_below_at, nth}
 use Rattle.constraint_rows.specs.Classes.{class_at}
@@ -29,7 +37,6 @@ use Rattle.constraint_rows.specs.WordRows.{AreSound, AreWordRows, IsCarriedRow, 
 use Rattle.constraint_rows.specs.declared.rows.Part.{Part}
 use Rattle.constraint_rows.specs.declared.words.Term.{Term}
 use Rattle.constraint_rows.proofs.OpIndex.{signed_mul}
-use Rattle.constraint_rows.proofs.OpLaws.{power_small}
 use Rattle.constraint_rows.proofs.GatherLaws.{IsGathering, IsTotalBelow, class_part, gathering, part_is, row_at-gathered, term_part, terms_sum}
 
 -- ---- sums over the components that belong to a word
@@ -139,32 +146,12 @@ share_zero (Some d) u = by (same_index d.0 u)
     by true = num_mul-zero d.1
     by false = refl
 
-own_index : (is : Index) → same_index is is ≡ true
-own_index [] = refl
-own_index (x1 ∷ is) = own_index is
-own_index (x2 ∷ is) = own_index is
-own_index (x3 ∷ is) = own_index is
-
-told_index : (is js : Index) → same_index is js ≡ true → is ≡ js
-told_index [] [] h = refl
-told_index [] (j ∷ js) h = cc
-told_index (i ∷ is) [] h = cc
-told_index (x1 ∷ is) (x1 ∷ js) h = ap (λ ks. x1 ∷ ks) (told_index is js h)
-told_index (x2 ∷ is) (x2 ∷ js) h = ap (λ ks. x2 ∷ ks) (told_index is js h)
-told_index (x3 ∷ is) (x3 ∷ js) h = ap (λ ks. x3 ∷ ks) (told_index is js h)
-told_index (x1 ∷ is) (x2 ∷ js) h = cc
-told_index (x1 ∷ is) (x3 ∷ js) h = cc
-told_index (x2 ∷ is) (x1 ∷ js) h = cc
-told_index (x2 ∷ is) (x3 ∷ js) h = cc
-told_index (x3 ∷ is) (x1 ∷ js) h = cc
-told_index (x3 ∷ is) (x2 ∷ js) h = cc
-
 index_numbers : (r d u : ℕ) → d < 3 ^ r → u < 3 ^ r → same_index (index_of r d) (index_of r u) ≡ nat_eq u d
-index_numbers r d u h l = elim (bool_cases (nat_eq u d)) as (λ _. same_index (index_of r d) (index_of r u) ≡ nat_eq u d) [
-  | inl e ↦ ap (λ x. same_index (index_of r x) (index_of r u)) (sym (eqb-true u d e)) ∙ own_index (index_of r u) ∙ sym e
-  | inr e ↦ elim (bool_cases (same_index (index_of r d) (index_of r u))) as (λ _. same_index (index_of r d) (index_of r u) ≡ nat_eq u d) [
+index_numbers r d u h l = elim (cases_Bool (nat_eq u d)) as (λ _. same_index (index_of r d) (index_of r u) ≡ nat_eq u d) [
+  | inl e ↦ ap (λ x. same_index (index_of r x) (index_of r u)) (sym (eqb-true u d e)) ∙ same_own (index_of r u) ∙ sym e
+  | inr e ↦ elim (cases_Bool (same_index (index_of r d) (index_of r u))) as (λ _. same_index (index_of r d) (index_of r u) ≡ nat_eq u d) [
     | inl s ↦
-        let same : u ≡ d = sym (number-index_of r u l) ∙ ap component_number (sym (told_index (index_of r d) (index_of r u) s)) ∙ number-index_of r d h in
+        let same : u ≡ d = sym (number-index_of r u l) ∙ ap component_number (sym (same_told (index_of r d) (index_of r u) s)) ∙ number-index_of r d h in
         let t : true ≡ false = sym (eq-eqb u d same) ∙ e in
         cc
     | inr s ↦ s ∙ sym e
@@ -300,7 +287,7 @@ words_listed (suc r) =
     ap (words_below (suc r)) all ∙ block r 2 p (omega arith) ∙ (λ i. second i ++ map (λ w. minus ∷ w) (e i))
 
 -- ---- the rows of one more word
-module _ (r : ℕ) (before : ℕ → ℕ → Bool) (es : List Entry) where
+module _ (r : ℕ) (before : ℕ → ℕ → Bool) (es : List Entry) (chosen : Word → Bool) where
   rows_more : (ws : List Word) (rows : List (List Part)) (w : Word) (a b : List Part) → AreWordRows r before es ws rows →
       IsCarriedRow r before es (even_row w) a → IsCarriedRow r before es (odd_row w) b →
       AreWordRows r before es (ws ++ w ∷ []) (rows ++ a ∷ b ∷ [])
@@ -310,28 +297,28 @@ module _ (r : ℕ) (before : ℕ → ℕ → Bool) (es : List Entry) where
   rows_more (v ∷ ws) (x ∷ []) w a b h p q = absurd h
   rows_more (v ∷ ws) (x ∷ (y ∷ rows)) w a b h p q = (h.0, h.1, rows_more ws rows w a b h.2 p q)
 
-  one_used : (w : Word) (u : Bool) → is_used w ≡ u → filter is_used (w ∷ []) ≡ cond u (w ∷ []) []
-  one_used w u e = ap (λ t. cond t (w ∷ []) []) e
+  one_chosen : (w : Word) (u : Bool) → chosen w ≡ u → filter chosen (w ∷ []) ≡ cond u (w ∷ []) []
+  one_chosen w u e = ap (λ t. cond t (w ∷ []) []) e
 
-  used_more : (n : ℕ) (u : Bool) → is_used (word_at r n) ≡ u →
-      filter is_used (words_below r (n + 1)) ≡ filter is_used (words_below r n) ++ cond u (word_at r n ∷ []) []
-  used_more n u e =
+  chosen_more : (n : ℕ) (u : Bool) → chosen (word_at r n) ≡ u →
+      filter chosen (words_below r (n + 1)) ≡ filter chosen (words_below r n) ++ cond u (word_at r n ∷ []) []
+  chosen_more n u e =
       let next : n + 1 ≡ suc n = omega arith in
-      ap (λ m. filter is_used (words_below r m)) next
-      ∙ filter-append is_used (words_below r n) (word_at r n ∷ []) ∙ ap (λ ws. filter is_used (words_below r n) ++ ws) (one_used (word_at r n) u e)
+      ap (λ m. filter chosen (words_below r m)) next
+      ∙ filter-append chosen (words_below r n) (word_at r n ∷ []) ∙ ap (λ ws. filter chosen (words_below r n) ++ ws) (one_chosen (word_at r n) u e)
 
-  pub word_unused : (n : ℕ) (rows : List (List Part)) → is_used (word_at r n) ≡ false → AreRowsBelow r before es n rows →
-      AreRowsBelow r before es (n + 1) rows
-  word_unused n rows e h = record {
-    gone = subst (λ ws. AreWordRows r before es ws rows) (sym (used_more n false e ∙ append-nil (filter is_used (words_below r n)))) h.gone;
+  pub word_passed : (n : ℕ) (rows : List (List Part)) → chosen (word_at r n) ≡ false → AreRowsBelow r before es chosen n rows →
+      AreRowsBelow r before es chosen (n + 1) rows
+  word_passed n rows e h = record {
+    gone = subst (λ ws. AreWordRows r before es ws rows) (sym (chosen_more n false e ∙ append-nil (filter chosen (words_below r n)))) h.gone;
   }
 
-  pub word_used : (n : ℕ) (rows : List (List Part)) (a b : List Part) → is_used (word_at r n) ≡ true → AreRowsBelow r before es n rows →
+  pub word_taken : (n : ℕ) (rows : List (List Part)) (a b : List Part) → chosen (word_at r n) ≡ true → AreRowsBelow r before es chosen n rows →
       IsCarriedRow r before es (even_row (word_at r n)) a → IsCarriedRow r before es (odd_row (word_at r n)) b →
-      AreRowsBelow r before es (n + 1) (rows ++ a ∷ b ∷ [])
-  word_used n rows a b e h p q = record {
-    gone = subst (λ ws. AreWordRows r before es ws (rows ++ a ∷ b ∷ [])) (sym (used_more n true e))
-        (rows_more (filter is_used (words_below r n)) rows (word_at r n) a b h.gone p q);
+      AreRowsBelow r before es chosen (n + 1) (rows ++ a ∷ b ∷ [])
+  word_taken n rows a b e h p q = record {
+    gone = subst (λ ws. AreWordRows r before es ws (rows ++ a ∷ b ∷ [])) (sym (chosen_more n true e))
+        (rows_more (filter chosen (words_below r n)) rows (word_at r n) a b h.gone p q);
   }
 
 -- ---- the letters of a word from a place on
@@ -395,12 +382,12 @@ pub number_fits : (n k r : ℕ) → n < 3 ^ k → k ≤ r → r ≤ 6 → n < 72
 number_fits n k r h l m = let p : 3 ^ k ≤ 729 = power_small k (omega arith) in omega arith
 
 -- the rows of one more word, gathered from its terms
-pub word_made : (n r : ℕ) → n ≡ 3 ^ r → n ≤ 729 → (before : ℕ → ℕ → Bool) → IsTotalBelow n before → (es : List Entry) → AreSound n before es →
-    (w : ℕ) (rows mid new : List (List Part)) (a b : List Part) (ts us : List Term) → is_used (word_at r w) ≡ true →
-    AreRowsBelow r before es w rows → ts ≡ terms_from 0 0 (word_at r w) → a ≡ gathered before es 0 ts [] →
+pub word_made : (n r : ℕ) → n ≡ 3 ^ r → n ≤ 729 → (before : ℕ → ℕ → Bool) → IsTotalBelow n before → (es : List Entry) → AreSound n before es → (chosen : Word → Bool) →
+    (w : ℕ) (rows mid new : List (List Part)) (a b : List Part) (ts us : List Term) → chosen (word_at r w) ≡ true →
+    AreRowsBelow r before es chosen w rows → ts ≡ terms_from 0 0 (word_at r w) → a ≡ gathered before es 0 ts [] →
     us ≡ terms_from 0 0 (word_at r w) → b ≡ gathered before es 1 us [] → mid ≡ rows ++ a ∷ [] → new ≡ mid ++ b ∷ [] →
-    AreRowsBelow r before es (w + 1) new
-word_made n r size fits before order es sound w rows mid new a b ts us used h t_is a_is u_is b_is mid_is new_is =
+    AreRowsBelow r before es chosen (w + 1) new
+word_made n r size fits before order es sound chosen w rows mid new a b ts us taken h t_is a_is u_is b_is mid_is new_is =
     let word : Word = word_at r w in
     let carried : (k : ℕ) → IsCarriedRow r before es (part_row k word) (gathered before es k (terms_from 0 0 word) []) =
     λ k. carried_row n r size fits before order es sound k word (length_word r w) in
@@ -409,4 +396,4 @@ word_made n r size fits before order es sound w rows mid new a b ts us used h t_
     let odd : IsCarriedRow r before es (odd_row word) b =
     subst (IsCarriedRow r before es (odd_row word)) (sym (b_is ∙ ap (λ xs. gathered before es 1 xs []) u_is)) (carried 1) in
     let all : rows ++ a ∷ b ∷ [] ≡ new = sym (append_assoc rows (a ∷ []) (b ∷ [])) ∙ ap (λ xs. xs ++ b ∷ []) (sym mid_is) ∙ sym new_is in
-    subst (AreRowsBelow r before es (w + 1)) all (word_used r before es w rows a b used h even odd)
+    subst (AreRowsBelow r before es chosen (w + 1)) all (word_taken r before es chosen w rows a b taken h even odd)

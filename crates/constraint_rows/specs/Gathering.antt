@@ -18,7 +18,7 @@ use Rattle.tensor_defs.specs.Lists.{Each}
 use Rattle.tensor_defs.specs.Number.{Number, num_zero}
 use Rattle.tensor_defs.specs.Operation.{Axis, x1, x2, x3}
 use Rattle.tensor_defs.specs.Tensor.{Index, index_of}
-use Rattle.tensor_defs.specs.Words.{Letter, level, plus, minus, Word, is_used, belongs, twos, minus_twos, power_of_minus_one}
+use Rattle.tensor_defs.specs.Words.{Letter, level, plus, minus, Word, belongs, twos, minus_twos, power_of_minus_one}
 use Rattle.sign_moves.specs.declared.classes.Entry.{Entry}
 use Rattle.sign_moves.specs.Signs.{times}
 use Rattle.constraint_rows.specs.Classes.{class_at}
@@ -43,9 +43,10 @@ abbrev pub words_below : ℕ → ℕ → List Word
 words_below r zero = []
 words_below r (suc n) = words_below r n ++ word_at r n ∷ []
 
--- the rows of the words in use with numbers below an end
-pub record AreRowsBelow (r : ℕ) (before : ℕ → ℕ → Bool) (es : List Entry) (end : ℕ) (rows : List (List Part)) : Type 0 where
-  pub gone : AreWordRows r before es (filter is_used (words_below r end)) rows
+-- the rows of the words that are chosen, among those with numbers below an end
+pub record AreRowsBelow
+    (r : ℕ) (before : ℕ → ℕ → Bool) (es : List Entry) (chosen : Word → Bool) (end : ℕ) (rows : List (List Part)) : Type 0 where
+  pub gone : AreWordRows r before es (filter chosen (words_below r end)) rows
 
 -- ---- terms
 abbrev pub turn_of : Letter → ℕ

@@ -3,4 +3,5 @@ pub mod Reading
 pub mod Classes
 pub mod WordRows
 pub mod Marking
+pub mod Choices
 pub mod Gathering

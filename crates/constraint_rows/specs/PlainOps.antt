@@ -1,4 +1,11 @@
 -- Signed permutation matrices and what they do to components.
+--   image    the column in which a row has its entry
+--   entry_sign    the sign of that entry
+--   signs_of    the product of the signs at the first k places
+--   HasColumns    each row has its entry in a column
+--   IsPermutation    no two rows have their entries in one column
+--   StandsFor    p stands for the operation g: where each row has its entry 1 or -1, and the sign by the marks
+--   StandForAll    the same for two lists
 use Rattle.std.specs.Prelude.{◌≡◌, ◌≢◌, ℕ, ◌<◌, List, [], length, get_or, false}
 use Rattle.std.proofs.Common.{cond, zero, suc}
 use Rattle.tensor_defs.specs.declared.Sign.{Sign}

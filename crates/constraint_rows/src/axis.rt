@@ -13,13 +13,11 @@ ghost use Rattle.tensor_rank.specs.Shapes.{IsShapeOf};
 ghost use Rattle.constraint_rows.specs.Marking.{AreMarked, IsMarked, Kills, Turns};
 ghost use Rattle.constraint_rows.specs.WordRows.{AreSound, IsKilled, carrier_of};
 
-use crate::classing::{Classes, plain_table};
-use crate::memory::NoMemory;
-use crate::ops::PlainOp;
+use crate::classing::Classes;
 use crate::reading::plain_of;
 use magnetic_groups::Group;
 use op_matrix::Op;
-use sign_moves::{Entry, Sign};
+use sign_moves::{Entry, NoMemory, Sign};
 use std::alloc::Global;
 use tensor_rank::{Comp, Flags, Order, Rank, Shape};
 
@@ -47,6 +45,7 @@ fn kills<R: Rank>(op: &Op, flags: Flags, c: Comp<R>) -> bool
 pub fn killed_by_diagonal<R: Rank>(group: &Group, flags: Flags, c: Comp<R>) -> bool
     ensures { IsTrue result ↔ IsKilled (marks_of flags) (In group.now) (index_of R.R c) }
 {
+    // what the number tells of the component is for the proof
     let _number = c.number();
     for place in 0..group.len() {
         if kills(&group.at(place), flags, c) {
@@ -97,8 +96,7 @@ pub fn axis_classes<R: Rank>(
     ensures representatives { IfOk result (λ cs. (j : JahnSymbol) → IsShapeOf j R.R shape.now → AreRepresentatives j (In group.now) (before_of order.now) (carrier_of R.R cs)) }
     ensures sound { IfOk result (AreSound R.LEN (before_at R.R order.now)) }
 {
-    let none: [PlainOp; 0] = [];
-    let table = plain_table::<R>(alloc, shape.exchanges(), &none, order)?;
+    let table = shape.firsts(alloc, order)?;
     let marked = marked_table::<R>(alloc, &table, group, shape.flags())?;
     Ok(Classes::of_table(marked))
 }

@@ -1,3 +1,4 @@
+//! The classes of components under a group of signed permutation matrices and the exchanges of a symbol's blocks.
 ghost use Rattle.std.specs.Prelude.{◌≡◌, ℕ, ◌<◌, IfOk, length, Contains};
 ghost use Rattle.tensor_defs.specs.Frames.{AllOf, IsPlain};
 ghost use Rattle.tensor_defs.specs.Jahn.{IsInvariant, JahnSymbol};
@@ -11,13 +12,12 @@ ghost use Rattle.tensor_rank.specs.Within.{AllWithin};
 ghost use Rattle.constraint_rows.specs.Classes.{GroupStep, IsPlainTable, class_at, moves_of};
 ghost use Rattle.constraint_rows.specs.PlainOps.{ArePermutations, StandForAll};
 
-use crate::memory::NoMemory;
 use crate::op_moves::OpMoves;
 use crate::ops::PlainOp;
 use crate::reading::plain_of;
 use magnetic_groups::Group;
 use op_matrix::Op;
-use sign_moves::{Entry, Joined, Sign, Tabled, first_table};
+use sign_moves::{Entry, Joined, NoMemory, Sign, Tabled, first_table};
 use std::alloc::Global;
 use std::marker::{Model, PhantomData};
 use tensor_rank::{Comp, Exchange, ExchangeMoves, Flags, Order, Rank, Shape};
@@ -55,7 +55,7 @@ fn plain_ops(alloc: Global, operations: &[Op], flags: Flags) -> Result<Vec<Plain
 }
 
 /// The first component, in an order, to which matrices and exchanges of blocks carry each other one.
-pub(crate) fn plain_table<R: Rank>(
+fn plain_table<R: Rank>(
     alloc: Global,
     exchanges: &[Exchange],
     ops: &[PlainOp],

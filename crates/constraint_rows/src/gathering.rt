@@ -4,9 +4,8 @@ ghost use Rattle.tensor_rank.specs.Orders.{before_at};
 ghost use Rattle.constraint_rows.specs.Gathering.{AreSmallParts, IsPlaceFor, added, counted_at, part_at_place, unit};
 ghost use Rattle.constraint_rows.specs.WordRows.{AreParts};
 
-use crate::memory::NoMemory;
 use crate::rows::Part;
-use sign_moves::Sign;
+use sign_moves::{NoMemory, Sign};
 use tensor_rank::{Comp, Order, Rank};
 
 /// A number with 1 or -1 added.

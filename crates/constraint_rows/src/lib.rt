@@ -5,9 +5,9 @@
 #![tactic(auto)]
 
 mod axis;
+mod choosing;
 mod classing;
 mod gathering;
-mod memory;
 mod op_moves;
 mod ops;
 mod reading;
@@ -16,9 +16,9 @@ mod words;
 
 pub use axis::{axis_classes, killed_by_diagonal};
 pub use classing::{Classes, plain_classes};
-pub use memory::NoMemory;
 pub use rows::{Part, Row};
-pub use words::{rows_of_words, word_rows};
+pub use sign_moves::NoMemory;
+pub use words::{rows_of_words, turning_rows, word_rows};
 
 #[cfg(test)]
 mod tests;

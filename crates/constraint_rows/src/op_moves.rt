@@ -1,3 +1,4 @@
+//! Signed permutation matrices as moves of components.
 ghost use Rattle.std.specs.Prelude.{◌≡◌};
 ghost use Rattle.constraint_rows.specs.PlainOps.{ArePermutations};
 

@@ -1,3 +1,4 @@
+//! Signed permutation matrices by their rows, and where they carry a component.
 use sign_moves::{Sign, times};
 use tensor_rank::{Comp, Rank};
 

@@ -1,18 +1,15 @@
 //! The reading of an operation as a signed permutation matrix with a sign for the whole tensor.
 ghost use Rattle.std.specs.Prelude.{◌≡◌, ◌<◌};
 ghost use Rattle.tensor_defs.specs.Frames.{IsPlain};
-ghost use Rattle.tensor_defs.specs.Number.{num_one};
 ghost use Rattle.tensor_defs.specs.Operation.{value};
-ghost use Rattle.tensor_defs.specs.Tensor.{axial_sign, time_sign};
 ghost use Rattle.op_matrix.specs.View.{axis};
-ghost use Rattle.sign_moves.specs.Signs.{signed};
 ghost use Rattle.tensor_rank.specs.Flags.{marks_of};
 ghost use Rattle.constraint_rows.specs.PlainOps.{StandsFor};
 ghost use Rattle.constraint_rows.specs.Reading.{RowReads, is_minus, is_unit, row_negates, unit_column};
 
 use crate::ops::PlainOp;
 use op_matrix::{Entry, Op};
-use sign_moves::{Sign, times};
+use tensor_action::sign_of;
 use tensor_rank::Flags;
 
 /// Where a row of a signed permutation matrix has its entry, and whether it is -1.
@@ -81,32 +78,6 @@ fn row_of(op: &Op, row: usize) -> RowEntry
     }
 }
 
-/// The sign that an axial tensor takes.
-fn axial_sign(op: &Op, axial: bool) -> Sign
-    requires { IsPlain op.now }
-    ensures { axial_sign axial op.now ≡ signed result num_one }
-{
-    if !axial {
-        return Sign::Plus;
-    }
-    if op.det() < 0 {
-        Sign::Minus
-    } else {
-        Sign::Plus
-    }
-}
-
-/// The sign that a magnetic tensor takes.
-fn time_sign(op: &Op, magnetic: bool) -> Sign
-    ensures { time_sign magnetic op.now.primed ≡ signed result num_one }
-{
-    if magnetic && op.primed() {
-        Sign::Minus
-    } else {
-        Sign::Plus
-    }
-}
-
 /// A plain operation by its rows, with the sign that tensors with these marks take.
 pub fn plain_of(op: &Op, flags: Flags) -> PlainOp
     requires { IsPlain op.now }
@@ -118,6 +89,6 @@ pub fn plain_of(op: &Op, flags: Flags) -> PlainOp
     PlainOp {
         images: [first.column, second.column, third.column],
         negates: [first.negates, second.negates, third.negates],
-        whole: times(axial_sign(op, flags.axial), time_sign(op, flags.magnetic)),
+        whole: sign_of(op, flags),
     }
 }

@@ -2,7 +2,7 @@
 ghost use Rattle.std.specs.Prelude.{◌≡◌, ◌≢◌, ◌<◌, pos, IfOk, length, slice_get, Some};
 ghost use Rattle.constraint_rows.specs.WordRows.{AreParts};
 
-use crate::memory::NoMemory;
+use sign_moves::NoMemory;
 use std::alloc::Global;
 use std::marker::{Model, PhantomData};
 use tensor_rank::{Comp, Rank};

@@ -1,5 +1,5 @@
 //! Worked components.
-use crate::{Part, axis_classes, killed_by_diagonal, plain_classes, word_rows};
+use crate::{Part, axis_classes, killed_by_diagonal, plain_classes, turning_rows, word_rows};
 use group_symbol::read_group;
 use jahn_grammar::read_jahn;
 use magnetic_groups::{Group, build_group};
@@ -172,5 +172,44 @@ fn rows_are_carried_over(rt: HostRuntime) -> Result<(), Fail> {
     );
     assert_eq!(rt; row_of(rt.alloc(), "3", "{V2}", 5, &[]), Some((6, true)));
     assert_eq!(rt; row_of(rt.alloc(), "6", "V2", 0, &[]), Some((6, true)));
+    Ok(())
+}
+
+/// Whether the row at a place has these parts, among the rows for all rotations about z over all components of a
+/// rank, and how many rows there are.
+fn turning_row_of<R: Rank>(
+    alloc: Global,
+    shape: &Shape<R>,
+    place: usize,
+    parts: &[Part],
+) -> Option<(usize, bool)> {
+    let none = Group::trivial(alloc).ok()?;
+    let classes = axis_classes(alloc, &none, shape, &Order::index()).ok()?;
+    let rows = turning_rows(alloc, &classes, &Order::index()).ok()?;
+    Some((rows.len(), rows.get(place)?.parts() == parts))
+}
+
+// The word +++ of V3: T111 - T122 - T212 - T221 and T112 + T121 + T211 - T222; the word zz+ gives T331 before.
+#[test]
+fn turning_rows_are_worked(rt: HostRuntime) -> Result<(), Fail> {
+    let rows = [
+        (0, [part(24, 1)].to_vec(rt.alloc())?),
+        (
+            12,
+            [part(0, 1), part(4, -1), part(10, -1), part(12, -1)].to_vec(rt.alloc())?,
+        ),
+        (
+            13,
+            [part(1, 1), part(3, 1), part(9, 1), part(13, -1)].to_vec(rt.alloc())?,
+        ),
+    ];
+    for (place, parts) in &rows {
+        let jahn = read_jahn(rt.alloc(), b"V3").ok().ok_or("V3")?;
+        let shape = compile(rt.alloc(), &jahn).ok().ok_or("V3")?;
+        assert_eq!(rt;
+            at_rank!(shape, s => turning_row_of(rt.alloc(), &s, *place, parts.as_slice())),
+            Some((20, true))
+        );
+    }
     Ok(())
 }

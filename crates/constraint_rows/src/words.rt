@@ -8,16 +8,17 @@ ghost use Rattle.magnetic_groups.specs.Sets.{In};
 ghost use Rattle.sign_moves.specs.declared.classes.Entry.{Entry};
 ghost use Rattle.tensor_rank.specs.Orders.{before_at, before_of};
 ghost use Rattle.tensor_rank.specs.Shapes.{IsShapeOf};
+ghost use Rattle.constraint_rows.specs.Choices.{is_chosen, is_turning};
 ghost use Rattle.constraint_rows.specs.Gathering.{AreRowsBelow, AreSmallParts, AreTermsBelow, gathered, term_added, terms_from, turn_sign, word_at};
 ghost use Rattle.constraint_rows.specs.WordRows.{AreSound, AreWordRows, carrier_of};
 
 use crate::axis::axis_classes;
+use crate::choosing::{Rotations, is_chosen};
 use crate::classing::Classes;
 use crate::gathering::add_part;
-use crate::memory::NoMemory;
 use crate::rows::{Part, Row};
 use magnetic_groups::Group;
-use sign_moves::{Sign, times};
+use sign_moves::{NoMemory, Sign, times};
 use std::alloc::Global;
 use tensor_rank::{Comp, Order, Rank, Shape};
 
@@ -26,29 +27,6 @@ use tensor_rank::{Comp, Order, Rank, Shape};
 pub(crate) struct Term {
     component: u16,
     quarters: u8,
-}
-
-/// Whether the count of + less that of - of a word isn't divisible by 3, and its first letter other than z is +. The
-/// digits 1, 2, 3 of a component stand for the letters z, +, -.
-fn is_used<R: Rank>(word: Comp<R>) -> bool
-    ensures { result ≡ is_used (word_at R.R word) }
-{
-    let mut turns = 0u8;
-    let mut begins = false;
-    for place in (0..R::R).rev() {
-        match word.digit(place) {
-            1 => {}
-            2 => {
-                turns += 1;
-                begins = true;
-            }
-            _ => {
-                turns += 2;
-                begins = false;
-            }
-        }
-    }
-    turns % 3 != 0 && begins
 }
 
 /// The power of i that an index 2 gives at a place of + (digit 2) or of - (digit 3).
@@ -148,9 +126,10 @@ fn row_of_terms<R: Rank>(
     Row::of_parts(alloc, parts)
 }
 
-/// Adds the even and the odd row of a word, if it is in use.
+/// Adds the even and the odd row of a word, if it is chosen.
 fn add_word<R: Rank>(
     alloc: Global,
+    rotations: Rotations,
     rows: &mut Vec<Row<R>>,
     terms: &mut Vec<Term>,
     parts: &mut Vec<Part>,
@@ -159,10 +138,10 @@ fn add_word<R: Rank>(
     word: Comp<R>,
 ) -> Result<(), NoMemory>
     requires sound { AreSound R.LEN (before_at R.R order.now) classes.now }
-    requires rows { AreRowsBelow R.R (before_at R.R order.now) classes.now word rows.old.items }
-    ensures { OnOk result (AreRowsBelow R.R (before_at R.R order.now) classes.now (word + 1) rows.new.items) }
+    requires rows { AreRowsBelow R.R (before_at R.R order.now) classes.now (is_chosen rotations) word rows.old.items }
+    ensures { OnOk result (AreRowsBelow R.R (before_at R.R order.now) classes.now (is_chosen rotations) (word + 1) rows.new.items) }
 {
-    if !is_used(word) {
+    if !is_chosen(rotations, word) {
         return Ok(());
     }
     terms.clear();
@@ -170,6 +149,34 @@ fn add_word<R: Rank>(
     rows.push(row_of_terms(alloc, parts, terms, classes, order, 0)?)?;
     rows.push(row_of_terms(alloc, parts, terms, classes, order, 1)?)?;
     Ok(())
+}
+
+/// The rows of the words that are chosen for rotations about z, carried over to the representatives.
+fn chosen_rows<R: Rank>(
+    alloc: Global,
+    rotations: Rotations,
+    classes: &Classes<R>,
+    order: &Order<R>,
+) -> Result<Vec<Row<R>>, NoMemory>
+    requires sound { AreSound R.LEN (before_at R.R order.now) classes.now }
+    ensures rows { IfOk result (λ v. AreWordRows R.R (before_at R.R order.now) classes.now (filter (is_chosen rotations) (words R.R)) v.items) }
+{
+    let mut rows = Vec::new(alloc);
+    let mut terms = Vec::new(alloc);
+    let mut parts = Vec::new(alloc);
+    for number in 0..R::LEN {
+        add_word(
+            alloc,
+            rotations,
+            &mut rows,
+            &mut terms,
+            &mut parts,
+            classes,
+            order,
+            Comp::at(number),
+        )?;
+    }
+    Ok(rows)
 }
 
 /// The rows of the words in use, carried over to the representatives: for each word its even row, then its odd row.
@@ -181,21 +188,21 @@ pub fn rows_of_words<R: Rank>(
     requires sound { AreSound R.LEN (before_at R.R order.now) classes.now }
     ensures rows { IfOk result (λ v. AreWordRows R.R (before_at R.R order.now) classes.now (filter is_used (words R.R)) v.items) }
 {
-    let mut rows = Vec::new(alloc);
-    let mut terms = Vec::new(alloc);
-    let mut parts = Vec::new(alloc);
-    for number in 0..R::LEN {
-        add_word(
-            alloc,
-            &mut rows,
-            &mut terms,
-            &mut parts,
-            classes,
-            order,
-            Comp::at(number),
-        )?;
-    }
-    Ok(rows)
+    chosen_rows(alloc, Rotations::Threefold, classes, order)
+}
+
+/// The rows for all rotations about z, carried over to the representatives: for each word in which the count of +
+/// isn't that of -, and whose first letter other than z is +, its even row, then its odd row. No whole number in them
+/// is above 729 in magnitude.
+pub fn turning_rows<R: Rank>(
+    alloc: Global,
+    classes: &Classes<R>,
+    order: &Order<R>,
+) -> Result<Vec<Row<R>>, NoMemory>
+    requires sound { AreSound R.LEN (before_at R.R order.now) classes.now }
+    ensures rows { IfOk result (λ v. AreWordRows R.R (before_at R.R order.now) classes.now (filter is_turning (words R.R)) v.items) }
+{
+    chosen_rows(alloc, Rotations::All, classes, order)
 }
 
 /// The rows of the words in use for a group, a symbol and an order.

@@ -1,19 +1,20 @@
 -- The listing of left cosets, each once, by one pass over the whole group.
+--   listing_none, listing_past, group_placed, listing_new, listed_states, listing_step ..    the loop over G
 use Rattle.std.proofs.Common.{◌≡◌, ◌≢◌, ℕ, zero, suc, ◌+◌, ◌-◌, ◌<◌, ◌≤◌, Bool, true, false, List, [], ◌∷◌, ◌++◌, length, refl, ap, sym, ◌∙◌, arith, subst, ◌⊎◌, inl, inr}
 use Rattle.std.specs.Prelude.{nat_eq, replicate, set, slice_index_or, Contains, IsTrue}
 use Rattle.std.proofs.lemmas.Bool.Decides.{nat_tests}
 use Rattle.std.proofs.lemmas.List.{length-set, get_or-set_same, get_or-set_other, get_or_append_left, length_push, get_or_push, get_or_default}
 use Rattle.tensor_defs.specs.Operation.{Operation, IsProduct}
-use Rattle.tensor_defs.specs.Lists.{Each, IsRising}
 use Rattle.tensor_defs.specs.OperationOrder.{comes_before}
 use Rattle.tensor_laws.proofs.Products.{product_unique}
 use Rattle.op_matrix.specs.Table.{nth_operation, place}
 use Rattle.std.proofs.lemmas.List.Elements.{Contains-push_cases, Contains-get_or}
+use Rattle.std.proofs.lemmas.Bool.{cases_lt}
+use Rattle.list_laws.proofs.Rising.{rising_push, rising_at}
+use Rattle.list_laws.proofs.Members.{each_push, each_from}
 use Rattle.tensor_defs.specs.States.{AreStates}
 use Rattle.op_matrix.proofs.Listed.{plain_placed, hex_placed}
 use Rattle.magnetic_groups.specs.Sets.{HaveFrame, In, IsGroup, IsWithin}
-use Rattle.magnetic_groups.proofs.Marked.{each_push, rising_push, each_told}
-use Rattle.magnetic_groups.proofs.Reaching.{nat_split}
 use Rattle.magnetic_groups.proofs.Cosets.{coset_self, coset_within, coset_sym, coset_trans}
 use Rattle.coset_states.specs.Numbering.{state_at, InCoset, IsNumbered, IsCovering, IsKept}
 
@@ -27,7 +28,7 @@ same_by s p q m false e h = let f : q ≢ p = grind (arith, nat_tests) in inr (g
 pub numbered_more : (fs : List Operation) (r : Operation) (m n : ℕ) (s s' : List ℕ) (f k : Operation) (p : ℕ) → IsNumbered fs r m n s s' → n < length fs → ((d : Operation) → slice_index_or fs n d ≡ f) → IsProduct r f k → p ≡ place k → p < 128 → k ≡ nth_operation p → IsNumbered fs r m (n + 1) s (set s' p m)
 numbered_more fs r m n s s' f k p i h at pr e b kn = record {
   sized = length-set s' p m ∙ i.sized;
-  inside = λ q d x l px. within q d x px (nat_split q n) l;
+  inside = λ q d x l px. within q d x px (cases_lt q n) l;
   others = λ q. others_by q (nat_eq q p) refl;
 }
   where
@@ -74,7 +75,7 @@ listing_past gs fs i reps s g l at n = record {
   sized = l.sized;
   sound = l.sound;
   complete = l.complete;
-  covered = λ j d h. by j d h (nat_split j i);
+  covered = λ j d h. by j d h (cases_lt j i);
   from = λ r c. let t = l.from r c in let u = t.1 in (t.0, omega arith, t.2, t.3);
   rising = l.rising;
   least = l.least;
@@ -83,17 +84,6 @@ listing_past gs fs i reps s g l at n = record {
     by : (j : ℕ) (d : Operation) → j < i + 1 → (j < i) ⊎ (i ≤ j) → state_at s (place (slice_index_or gs j d)) ≢ 0
     by j d h (inl a) = l.covered j d a
     by j d h (inr a) = let e : j ≡ i = omega arith in subst (λ x. state_at s (place x) ≢ 0) (sym (ap (λ x. slice_index_or gs x d) e ∙ at d)) n
-
-each_at : (xs : List Operation) (P : Operation → Type 0) → Each P xs → (j : ℕ) (d : Operation) → j < length xs → P (slice_index_or xs j d)
-each_at [] P e j d h = absurd (omega arith)
-each_at (x ∷ xs) P e zero d h = e.0
-each_at (x ∷ xs) P e (suc j) d h = each_at xs P e.1 j d (omega arith)
-
-rising_at : (xs : List Operation) → IsRising comes_before xs → (j i : ℕ) (d : Operation) → j < i → i < length xs → IsTrue (comes_before (slice_index_or xs j d) (slice_index_or xs i d))
-rising_at [] r j i d h l = absurd (omega arith)
-rising_at (x ∷ xs) r j zero d h l = absurd (omega arith)
-rising_at (x ∷ xs) r zero (suc i) d h l = each_at xs (λ b. IsTrue (comes_before x b)) r.0 i d (omega arith)
-rising_at (x ∷ xs) r (suc j) (suc i) d h l = rising_at xs r.1 j i d (omega arith) (omega arith)
 
 pub group_placed : (gs : List Operation) (k : Operation) → IsGroup gs → Contains gs k → k ≡ nth_operation (place k)
 group_placed gs k i c = by i.frame
@@ -164,7 +154,7 @@ module _ (gs fs : List Operation) (i : ℕ) (reps : List Operation) (s s' : List
   from_new r (inr e) = subst (FromHere (i + 1)) e (i, omega arith, il, at)
 
   rep_before : (r : Operation) → Contains reps r → IsTrue (comes_before r g)
-  rep_before r c = let t = l.from r c in subst (λ x. IsTrue (comes_before x g)) (t.3 g) (subst (λ x. IsTrue (comes_before (slice_index_or gs t.0 g) x)) (at g) (rising_at gs ig.rising t.0 i g t.1 il))
+  rep_before r c = let t = l.from r c in subst (λ x. IsTrue (comes_before x g)) (t.3 g) (subst (λ x. IsTrue (comes_before (slice_index_or gs t.0 g) x)) (at g) (rising_at comes_before gs ig.rising t.0 i g t.1 il))
 
   least_at : (k : Operation) (j : ℕ) → InCoset fs g k → k ≢ g → j < length gs → slice_index_or gs j k ≡ k → (j < i) ⊎ (i ≤ j) → IsTrue (comes_before g k)
   least_at k j c n h e (inl a) =
@@ -172,30 +162,30 @@ module _ (gs fs : List Operation) (i : ℕ) (reps : List Operation) (s s' : List
       let t = l.sound (place k) g cov in
       let pk : k ≡ nth_operation (place k) = group_placed gs k ig (coset_within gs fs g k ig w in_g c) in
       absurd (not_both t.0 g k t.2 (subst (InCoset fs (slice_index_or reps t.0 g)) (sym pk) t.3) c)
-  least_at k j c n h e (inr a) = later (nat_split i j)
+  least_at k j c n h e (inr a) = later (cases_lt i j)
     where
       later : (i < j) ⊎ (j ≤ i) → IsTrue (comes_before g k)
-      later (inl b) = subst (λ x. IsTrue (comes_before x k)) (at k) (subst (λ x. IsTrue (comes_before (slice_index_or gs i k) x)) e (rising_at gs ig.rising i j k b h))
+      later (inl b) = subst (λ x. IsTrue (comes_before x k)) (at k) (subst (λ x. IsTrue (comes_before (slice_index_or gs i k) x)) e (rising_at comes_before gs ig.rising i j k b h))
       later (inr b) = let q : j ≡ i = omega arith in absurd (n (sym e ∙ ap (λ x. slice_index_or gs x k) q ∙ at k))
 
   least_new : (k : Operation) → InCoset fs g k → k ≢ g → IsTrue (comes_before g k)
-  least_new k c n = let h : Contains gs k = coset_within gs fs g k ig w in_g c in least_at k h.0 c n h.1 h.2 (nat_split h.0 i)
+  least_new k c n = let h : Contains gs k = coset_within gs fs g k ig w in_g c in least_at k h.0 c n h.1 h.2 (cases_lt h.0 i)
 
   pub listing_new : IsCovering gs fs (i + 1) (reps ++ g ∷ []) s'
   listing_new = record {
     sized = nu.sized;
     sound = λ p d n. sound_new p d n (nu.others p);
-    complete = λ m d k h c. complete_new m d k (nat_split m (length reps)) (subst (λ x. m < x) long h) c;
-    covered = λ j d h. covered_new j d h (nat_split j i);
+    complete = λ m d k h c. complete_new m d k (cases_lt m (length reps)) (subst (λ x. m < x) long h) c;
+    covered = λ j d h. covered_new j d h (cases_lt j i);
     from = λ r c. from_new r (Contains-push_cases reps g r c);
-    rising = rising_push reps g l.rising (each_told reps (λ x. IsTrue (comes_before x g)) rep_before);
-    least = each_push reps (λ r. (k : Operation) → InCoset fs r k → k ≢ r → IsTrue (comes_before r k)) g l.least least_new;
+    rising = rising_push comes_before reps g l.rising (each_from (λ x. IsTrue (comes_before x g)) reps rep_before);
+    least = each_push (λ r. (k : Operation) → InCoset fs r k → k ≢ r → IsTrue (comes_before r k)) reps g l.least least_new;
   }
 
 pub listed_states : (gs fs : List Operation) (i : ℕ) (reps : List Operation) (s : List ℕ) → IsGroup gs → IsCovering gs fs i reps s → length gs ≤ i → AreStates (λ x. Contains gs x) (λ x. Contains fs x) reps
 listed_states gs fs i reps s ig l h = record {
   rising = l.rising;
-  within = each_told reps (λ x. Contains gs x) (λ r c. let t = l.from r c in (t.0, t.2, t.3 r));
+  within = each_from (λ x. Contains gs x) reps (λ r c. let t = l.from r c in (t.0, t.2, t.3 r));
   least = l.least;
   whole = λ k c. whole k c;
 }

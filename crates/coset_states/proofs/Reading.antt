@@ -2,7 +2,7 @@
 use Rattle.std.proofs.Common.{◌≡◌, ◌≢◌, ℕ, ◌+◌, ◌-◌, ◌<◌, ◌≤◌, Bool, true, List, length, refl, ap, sym, ◌∙◌, arith, subst}
 use Rattle.std.specs.Prelude.{slice_index_or, slice_get, Contains, ◌↔◌, IsTrue, Some, nat_eq}
 use Rattle.std.proofs.lemmas.Bool.Decides.{nat_tests}
-use Rattle.std.proofs.lemmas.Option.{slice_get-get_or}
+use Rattle.std.proofs.lemmas.Option.{slice_get-get_or, same_Some}
 use Rattle.tensor_defs.specs.Operation.{Operation}
 use Rattle.tensor_defs.specs.States.{Times, IsState, AreStates}
 use Rattle.op_matrix.specs.Table.{nth_operation, place}
@@ -10,12 +10,9 @@ use Rattle.magnetic_groups.specs.Sets.{In, IsWithin}
 use Rattle.coset_states.specs.Numbering.{Cosets, state_at, InCoset, IsKept}
 use Rattle.coset_states.proofs.Listing.{kept_states}
 
-some_same : (x y : Operation) → Some x ≡ Some y → x ≡ y
-some_same x y e = cc
-
 -- the representative at a place read with a default is that of the state
 state_rep : (reps : List Operation) (k : ℕ) (r d : Operation) → IsState reps k r → k ≤ length reps → slice_index_or reps (k - 1) d ≡ r
-state_rep reps k r d is h = let l = is.0 in some_same _ _ (sym (slice_get-get_or reps (k - 1) d (omega arith)) ∙ is.1)
+state_rep reps k r d is h = let l = is.0 in same_Some _ _ (sym (slice_get-get_or reps (k - 1) d (omega arith)) ∙ is.1)
 
 -- an operation numbered k is in state k, and the other way round
 pub numbered : (gs fs reps : List Operation) (s : List ℕ) (k p : ℕ) (g r : Operation) → IsKept gs fs reps s → 1 ≤ k → k ≤ length reps → p ≡ place g → g ≡ nth_operation p → IsState reps k r → (state_at s p ≡ k) ↔ Times r (In fs) g

@@ -83,6 +83,7 @@ fn number_all(
     requires within { IsWithin sub.now whole.now }
     ensures { IfOk result (λ v. IsKept whole.now sub.now v.items numbers.new) }
 {
+    // what the length tells of the group is for the proof
     let _size = sub.len();
     let mut representatives = Vec::new(alloc);
     for place in 0..whole.len() {
@@ -123,6 +124,7 @@ impl States {
         ensures groups { IsGroup self.now.whole × IsGroup self.now.sub }
         ensures within { IsWithin self.now.sub self.now.whole }
     {
+        // a field that is read brings the invariant into the proof
         let _numbers = &self.numbers;
         self.representatives.len()
     }

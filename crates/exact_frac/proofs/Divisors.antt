@@ -1,4 +1,11 @@
 -- Parts without a common divisor.
+--   factor-1    a number that divides is a factor
+--   apart-divisor    what has no divisor in common with b has none with a divisor of b
+--   apart-mul    nor with a product
+--   gcd-mul    a factor with no divisor in common goes
+--   sum-apart    p·r + q·l has no divisor in common with l where neither p nor r has
+--   product-lowest    the parts of a product, the common divisors crosswise taken out
+--   sum-lowest    p·r + q·l has no divisor in common with l·r, l and r being what is left of denominators m and n
 use Rattle.std.proofs.Common.{◌≡◌, ℕ, ◌+◌, ◌*◌, ◌/◌, ◌%◌, ◌<◌, ◌⊎◌, inl, inr, ap, sym, ◌∙◌, subst, arith}
 use Rattle.std.specs.Prelude.{unsigned_abs}
 use Rattle.std.specs.Int.{IsGcd}

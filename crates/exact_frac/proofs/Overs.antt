@@ -1,13 +1,11 @@
 -- Fractions as numbers: when two are one number, sums, products and negatives by parts.
 use Rattle.std.proofs.Common.{◌≡◌, ℕ, zero, suc, ◌*◌, ◌<◌, refl, ap, sym, ◌∙◌, arith, lit<}
+use Rattle.number_laws.proofs.Fractions.{zero_times, over-whole}
 use lib.IntN.{ℤ, pos, negsuc, ◌+ℤ◌, ◌*ℤ◌, *ℤ_comm, neg_ℤ, +ℤ_idr}
 use native.Mathlib.Nat.{one-mul}
 use Rattle.tensor_defs.specs.IntRing.{positive_mul, mul-zero_ℤ, mul-one_ℤ, neg-mul_ℤ, ring_ℤ}
 use Rattle.tensor_defs.specs.Number.{number_of, same_numbers, add, mul, add_at, mul_at, neg, num_zero, whole, over, fraction}
 use Rattle.number_laws.proofs.Sameness.{numbers_are_same_lem}
-
-pub zero_times : (z : ℤ) → pos 0 *ℤ z ≡ pos 0
-zero_times z = *ℤ_comm (pos 0) z ∙ mul-zero_ℤ z
 
 pub over-same : (p q : ℤ) (m n : ℕ) → 0 < m → 0 < n → p *ℤ pos n ≡ q *ℤ pos m → over p m ≡ over q n
 unfolding over fraction
@@ -36,10 +34,6 @@ over-zero (suc k) =
       same_p = mul-one_ℤ (pos 0) ∙ sym (zero_times (pos (suc k)));
       same_q = mul-one_ℤ (pos 0) ∙ sym (zero_times (pos (suc k)));
     })
-
-pub over-whole : (p : ℤ) → over p 1 ≡ whole p
-unfolding over fraction whole
-over-whole p = same_numbers _ _ (record { same_p = refl; same_q = refl })
 
 pub over-is_zero : (p : ℤ) (n : ℕ) → 0 < n → over p n ≡ num_zero → p ≡ pos 0
 over-is_zero p n h e =

@@ -1,4 +1,4 @@
-// Greatest common divisors in 64 bits.
+//! Greatest common divisors in 64 bits.
 ghost use Rattle.std.specs.Prelude.{◌≡◌, ◌<◌, ◌/◌, ◌%◌};
 ghost use Rattle.std.specs.Int.{IsGcd};
 

@@ -1,4 +1,4 @@
-// The type `Frac`, and its operations.
+//! The type `Frac`, and its operations.
 use crate::divisor::gcd;
 use crate::lowest::{cross_sum, differ_in_sign, from_lowest, lowered, lowered_sum, with_sign};
 use crate::text::append;
@@ -102,6 +102,7 @@ impl Frac {
         ensures held { IsHeld self.now }
         ensures below { ReachesLimit (value_of self.now) → ⊥ }
     {
+        // a field that is read brings the invariant into the proof
         let _ = &self.num;
     }
 

@@ -1,4 +1,4 @@
-// Fractions in lowest terms from their parts.
+//! Fractions in lowest terms from their parts.
 ghost use Rattle.std.specs.Prelude.{◌≡◌, ◌<◌, ◌*◌, ◌^◌, unsigned_abs, ◌+ℤ◌, ◌*ℤ◌, pos};
 ghost use Rattle.std.specs.Int.{IsGcd};
 ghost use Rattle.tensor_defs.specs.Number.{over};

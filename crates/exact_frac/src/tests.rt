@@ -1,4 +1,4 @@
-// Worked values of fractions.
+//! Worked values of fractions.
 use super::*;
 use std::alloc::Global;
 use std::process::Abort;

@@ -1,4 +1,4 @@
-// The text of a fraction.
+//! The text of a fraction.
 ghost use Rattle.std.specs.Prelude.{◌≡◌, ◌++◌, length};
 ghost use Rattle.smallvec.specs.SmallVec.{HasRoomFor};
 

@@ -1,13 +1,23 @@
 -- The first named symbol of lists that are looked through piece by piece.
+--   after_none    none in one list, and the first of another
+--   with_more    more after it changes nothing
+--   piece_none    one piece more without a name
+--   piece_some    the first piece with a name
+--   kept    a filter, by pieces
+--   up_to_length, up_to_at    the numbers from 1
+--   told_at, primed_piece, below_count, past_count, at_number    the pieces of the look-up
+--   plain_named, grey_named, primed_named    the symbols of a parent and a setting
+--   taken_piece, left_piece, settings_told, at_any    the settings of a parent
+--   of_parent, parent_piece, number_at, all_named, no_parent    all parents
 use Rattle.std.proofs.Common.{◌≡◌, ℕ, zero, suc, ◌+◌, ◌-◌, ◌^◌, ◌<◌, ◌≤◌, Bool, true, false, cond, List, [], ◌∷◌, ◌++◌, length, refl, ap, sym, ◌∙◌, arith, subst, take, append_assoc, add-one, ◌⊎◌, inl, inr}
 use Rattle.std.specs.Prelude.{Option, Some, None, slice_index_or, map, filter, SomeIff}
 use Rattle.std.specs.List.{flat_map}
 use Rattle.std.proofs.lemmas.List.{length_push, get_or_append_left, get_or_push, get_or_default}
 use Rattle.std.proofs.lemmas.List.Concat.{flat_map_single}
+use Rattle.std.proofs.lemmas.Bool.{cases_lt}
 use Rattle.tensor_defs.specs.declared.Setting.{Setting}
 use Rattle.tensor_defs.specs.declared.Setting.TheVariants.{Default}
 use Rattle.group_symbol.specs.Readings.{symbol_of}
-use Rattle.magnetic_groups.proofs.Reaching.{nat_split}
 use Rattle.tensor_defs.specs.Lists.{Each, up_to}
 use Rattle.tensor_defs.specs.Operation.{Operation}
 use Rattle.tensor_defs.specs.Symbols.{GroupSymbol, operator_count, takes_setting}
@@ -85,7 +95,7 @@ at_by n i d (inr l) h e = let s : i ≡ n = omega arith in get_or_push (up_to n)
 
 pub up_to_at : (n i : ℕ) → i < n → (d : ℕ) → slice_index_or (up_to n) i d ≡ i + 1
 up_to_at zero i h d = absurd (omega arith)
-up_to_at (suc n) i h d = at_by n i d (nat_split i n) h (λ l. up_to_at n i l d)
+up_to_at (suc n) i h d = at_by n i d (cases_lt i n) h (λ l. up_to_at n i l d)
 
 -- ---- the pieces of the look-up
 pub told_at : (H : Operation → Type 0) (ts : List GroupSymbol) (o p : Option GroupSymbol) → o ≡ p → IsFirstNamed H ts o → IsFirstNamed H ts p

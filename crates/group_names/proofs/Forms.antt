@@ -5,6 +5,7 @@
 use Rattle.std.proofs.Common.{◌≡◌, ℕ, ◌+◌, ◌*◌, ◌≤◌, ◌/◌, ◌%◌, ◌↔◌, ◌∙◌, ap, IsTrue, Bool, true, false, List, [], ◌∷◌, refl, sym, arith, subst, ◌⊎◌, inl, inr}
 use Rattle.std.specs.Prelude.{◌==◌, Option, Some, None, Contains}
 use Rattle.std.proofs.lemmas.List.Elements.{Contains-append_left, Contains-append_right, Contains-append_cases, Contains-push_cases}
+use Rattle.list_laws.proofs.Lists.{none_held}
 use Rattle.tensor_defs.specs.declared.OpKind.{OpKind}
 use Rattle.tensor_defs.specs.declared.OpKind.TheVariants.{Two, Three, Four, Six, Bar1, Bar3, Bar4, Bar6, Mirror}
 use Rattle.tensor_defs.specs.declared.Direction.{Direction}
@@ -68,18 +69,15 @@ no_form xs g u v k n p q at is eu ev tu tv ep eq true c =
     absent xs (marked g true) v q tv eq (form_at g k true at ∙ ap nth_operation w ∙ sym ev) c
 
 -- ---- the operators of a parent
-nothing : (g : Operation) → Contains [] g → ⊥
-nothing g c = let h = c.1 in omega arith
-
 listed_form : (o o' : Option Operation) (b : Bool) (g : Operation) → with_mark b o ≡ o' → Contains (listed o) g → Contains (listed o') (marked g b)
-listed_form None o' b g e c = absurd (nothing g c)
+listed_form None o' b g e c = absurd (none_held g c)
 listed_form (Some a) o' b g e c = subst (λ x. Contains (listed x) (marked g b)) e (elim (Contains-push_cases [] a g c) [
-  | inl h ↦ absurd (nothing g h)
+  | inl h ↦ absurd (none_held g h)
   | inr q ↦ subst (λ x. Contains (marked a b ∷ []) (marked x b)) q (0, omega arith, refl)
 ])
 
 pub partner : (s : Setting) (os : List Operator) (p : ℕ) (g : Operation) → Contains (operations_of s 0 os) g → (b : Bool) × Contains (operations_of s p os) (marked g b)
-partner s [] p g c = absurd (nothing g c)
+partner s [] p g c = absurd (none_held g c)
 partner s (o ∷ os) p g c =
     by (Contains-append_cases (listed (operation_of o.kind (turned_to s o.direction) false)) (operations_of s 0 os) g c) (partner s os (p / 2) g)
   where
@@ -89,7 +87,7 @@ partner s (o ∷ os) p g c =
 
 plain_part : (n : ℕ) (s : Setting) (g : Operation) → Contains (generators (symbol_of n 0 false s)) g → Contains (operations_of s 0 (parent_operators n)) g
 unfolding generators
-plain_part n s g c = elim (Contains-append_cases (operations_of s 0 (parent_operators n)) [] g c) [ inl h ↦ h | inr h ↦ absurd (nothing g h) ]
+plain_part n s g c = elim (Contains-append_cases (operations_of s 0 (parent_operators n)) [] g c) [ inl h ↦ h | inr h ↦ absurd (none_held g h) ]
 
 operators_part : (t : GroupSymbol) (g : Operation) → Contains (operations_of t.setting t.primes (parent_operators t.parent)) g → Contains (generators t) g
 unfolding generators

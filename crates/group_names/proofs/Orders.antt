@@ -1,8 +1,18 @@
 -- The matrices of a symbol's group are those of its parent's, and no more than the published order.
-use Rattle.std.proofs.Common.{◌≡◌, ℕ, zero, suc, ◌+◌, ◌*◌, ◌/◌, ◌<◌, ◌≤◌, Bool, true, false, cond, List, [], ◌∷◌, ◌++◌, length, refl, ap, sym, ◌∙◌, arith, subst, lit<, ◌⊎◌, inl, inr}
+--   count, few_members    how many numbers pass a test
+--   is_in, matrices_of, one, reversed, operators, few, twice    the matrices of a parent's group, by computing
+--   Within, group_within    the matrices of a symbol's group are among them
+--   twice_bound    at most two elements have one matrix
+--   once_bound    and one, where time reversal alone isn't an element
+--   grey_bounds, plain_bounds    what the code counts
+use Rattle.std.proofs.Common.{[], ◌≡◌, ℕ, zero, suc, ◌+◌, ◌*◌, ◌/◌, ◌<◌, ◌≤◌, Bool, true, false, cond, List, ◌∷◌, ◌++◌, length, refl, ap, sym, ◌∙◌, arith, subst, lit<, ◌⊎◌, inl, inr}
 use Rattle.std.specs.Prelude.{Contains, IsTrue, ◌↔◌, nat_eq, nat_le, nat_lt, get_or, map}
 use Rattle.std.proofs.lemmas.Bool.Decides.{nat_tests}
 use Rattle.std.proofs.lemmas.List.Elements.{Contains-append_cases}
+use Rattle.std.proofs.lemmas.Bool.{eqb-true, cases_lt, false≢true}
+use Rattle.list_laws.proofs.Members.{each_from}
+use Rattle.list_laws.proofs.Below.{all_below, below_told}
+use Rattle.list_laws.proofs.Tests.{implied, both}
 use mathlib.Core.Bool.{xor}
 use Rattle.tensor_defs.specs.declared.Setting.{Setting}
 use Rattle.tensor_defs.specs.declared.Setting.TheVariants.{Default, X, Z, XY, D, P}
@@ -16,20 +26,17 @@ use Rattle.tensor_laws.proofs.Products.{generated_within}
 use Rattle.tensor_laws.proofs.Associativity.{product_assoc}
 use Rattle.op_matrix.specs.Laws.{HasFrame}
 use Rattle.op_matrix.specs.Places.{place_at}
-use Rattle.op_matrix.specs.Tests.{all_below, below_told, both, nat_eq_means}
 use Rattle.op_matrix.specs.Table.{operation_at, matrix_place, place}
 use Rattle.op_matrix.specs.declared.entry.Frame.{Frame}
 use Rattle.op_matrix.specs.declared.entry.Frame.TheVariants.{Plain, Hexagonal, Both}
 use Rattle.op_matrix.proofs.Frames.{also}
-use Rattle.op_matrix.proofs.Hexagonal.{implies, implied}
+use Rattle.op_matrix.proofs.Hexagonal.{implies, identity_at}
 use Rattle.op_matrix.proofs.Listed.{plain_listed, hex_listed, plain_one}
 use Rattle.op_matrix.proofs.Order.{places_rise}
 use Rattle.op_matrix.proofs.Products.{product_code, frame_code, common, product_at, product_code_below}
-use Rattle.magnetic_groups.specs.Sets.{In, HaveFrame, IsGroup, InverseIn}
+use Rattle.magnetic_groups.specs.Sets.{In, IsGroup, InverseIn}
 use Rattle.magnetic_groups.proofs.Cosets.{group_inverse, group_product}
-use Rattle.magnetic_groups.proofs.Marked.{each_told}
 use Rattle.magnetic_groups.proofs.Members.{member_framed}
-use Rattle.magnetic_groups.proofs.Reaching.{nat_split}
 use Rattle.magnetic_groups.proofs.SymbolFrames.{each_operator, operators_pass, grey_tail, tail_is, reversal_plain, generators_framed}
 use Rattle.group_names.specs.LookUps.{order_of, BoundsOrder}
 
@@ -54,7 +61,7 @@ rising_count zero a p (x ∷ xs) r e = let l = e.0.0 in let u = e.0.1 in absurd 
 rising_count (suc n) a p [] r e = omega arith
 rising_count (suc n) a p (x ∷ xs) r e =
     by (λ l. rising_count n (a + 1) p (x ∷ xs) r (begins l, above n a x p xs e.0.0 r.0 e.1))
-    (rising_count n (a + 1) p xs r.1 (above n a x p xs e.0.0 r.0 e.1)) (nat_split a x)
+    (rising_count n (a + 1) p xs r.1 (above n a x p xs e.0.0 r.0 e.1)) (cases_lt a x)
   where
     begins : a < x → Passes n (a + 1) p x
     begins l = let u = e.0.1 in (omega arith, omega arith, e.0.2)
@@ -168,10 +175,6 @@ framed_at : (g : Operation) → HasFrame g → At g
 framed_at g (inl f) = let a = plain_listed g f in (a.0, a.1, a.3)
 framed_at g (inr f) = let a = hex_listed g f in (a.0, a.1, a.3)
 
-list_framed : (xs : List Operation) (g : Operation) → HaveFrame xs → Contains xs g → HasFrame g
-list_framed xs g (inl f) c = inl (f g c)
-list_framed xs g (inr f) c = inr (f g c)
-
 matrix_at : (g : Operation) (a : At g) → matrix_place g ≡ a.0
 matrix_at g a = ap matrix_place a.2 ∙ place_at a.0 g.primed a.1
 
@@ -186,10 +189,6 @@ kept_step ls s l a e w =
     let m : Operation = operation_at (product_code a.0 w.0) (xor s.primed l.primed) in
     let p : IsProduct (operation_at a.0 s.primed) (operation_at w.0 l.primed) m = product_at a.0 w.0 s.primed l.primed (xor s.primed l.primed) a.1 w.1 u.0 refl in
     (m, (product_code a.0 w.0, product_code_below a.0 w.0 a.1 w.1, u.1, mark_is (product_code a.0 w.0) (xor s.primed l.primed)), subst (λ x. IsProduct x l m) (sym a.2) (subst (λ x. IsProduct (operation_at a.0 s.primed) x m) (sym w.3) p))
-
-one_at : identity ≡ operation_at 0 false
-unfolding operation_at
-one_at = refl
 
 reversal_at : reversal ≡ operation_at 0 true
 unfolding operation_at
@@ -207,8 +206,8 @@ pub group_within : (t : GroupSymbol) → IsGroupSymbol t → (k : Operation) →
 group_within t i =
     let f : Fits t.setting t.parent (matrices_of t.parent t.setting) = fits_at t.setting t.parent i.last i.setting in
     let ls : List ℕ = matrices_of t.parent t.setting in
-    generated_within (λ g. Contains (generators t) g) (Within (matrices_of t.parent t.setting)) (0, lit< tt, f.one, one_at)
-    (λ s l c w. kept_step (matrices_of t.parent t.setting) s l (framed_at s (list_framed (generators t) s (generators_framed t i) c)) (generator_kept t (matrices_of t.parent t.setting) f s c) w)
+    generated_within (λ g. Contains (generators t) g) (Within (matrices_of t.parent t.setting)) (0, lit< tt, f.one, identity_at)
+    (λ s l c w. kept_step (matrices_of t.parent t.setting) s l (framed_at s (member_framed (generators t) s (generators_framed t i) c)) (generator_kept t (matrices_of t.parent t.setting) f s c) w)
 
 -- ---- at most two elements have one matrix
 bit : Bool → ℕ
@@ -226,7 +225,7 @@ abbrev Held : List ℕ → List Operation → Operation → Type 0
 Held ls xs g = HasFrame g × Within ls g × Contains xs g
 
 held_all : (t : GroupSymbol) (xs : List Operation) → IsGroup xs → IsGroupSymbol t → IsNamed t (In xs) → Each (Held (matrices_of t.parent t.setting) xs) xs
-held_all t xs g i n = each_told xs (Held (matrices_of t.parent t.setting) xs) (λ k c. (member_framed xs k g.frame c, group_within t i k ((n.1 k).1 c), c))
+held_all t xs g i n = each_from (Held (matrices_of t.parent t.setting) xs) xs (λ k c. (member_framed xs k g.frame c, group_within t i k ((n.1 k).1 c), c))
 
 passes_twice : (ls : List ℕ) (xs : List Operation) (g : Operation) → Held ls xs g → Passes 128 0 (half_in ls) (place g)
 passes_twice ls xs g h =
@@ -262,7 +261,7 @@ mark = refl
 
 both_marks : (xs : List Operation) (g h : Operation) (c : ℕ) → IsGroup xs → c < 64 → Contains xs g → Contains xs h → g ≡ operation_at c false → h ≡ operation_at c true → Contains xs reversal
 both_marks xs g h c i l a b p q =
-    let m : product_code c 0 ≡ c = nat_eq_means (product_code c 0) c (below_told 64 (λ c. nat_eq (product_code c 0) c) times_one c l) in
+    let m : product_code c 0 ≡ c = eqb-true (product_code c 0) c (below_told 64 (λ c. nat_eq (product_code c 0) c) times_one c l) in
     let t : IsProduct (operation_at c false) (operation_at 0 true) (operation_at (product_code c 0) true) = product_at c 0 false true true l (lit< tt) (zero_common (frame_code c)) mark in
     let u : IsProduct g reversal h = subst (λ x. IsProduct x reversal h) (sym p) (subst (λ x. IsProduct (operation_at c false) x h) (sym reversal_at) (subst (IsProduct (operation_at c false) (operation_at 0 true)) (ap (λ x. operation_at x true) m ∙ sym q) t)) in
     let v : InverseIn (In xs) g = group_inverse xs i g a in
@@ -294,7 +293,7 @@ matrix_rises ls xs i lacks g h a b r = by g.primed h.primed refl refl (places_ri
             final true true e f l = omega arith
             final true false e f l = omega arith
             final false false e f l = omega arith
-            final false true e f l = split (matrix_place g) (matrix_place h) (omega arith) (λ s. let w = same false true e f s in lacks (both_marks xs g h a.1.0 i a.1.1 a.2 b.2 w.0 w.1)) (nat_split (matrix_place g) (matrix_place h))
+            final false true e f l = split (matrix_place g) (matrix_place h) (omega arith) (λ s. let w = same false true e f s in lacks (both_marks xs g h a.1.0 i a.1.1 a.2 b.2 w.0 w.1)) (cases_lt (matrix_place g) (matrix_place h))
 
 passes_once : (ls : List ℕ) (xs : List Operation) (g : Operation) → Held ls xs g → Passes 64 0 (is_in ls) (matrix_place g)
 passes_once ls xs g h =
@@ -316,7 +315,4 @@ pub grey_bounds : (xs : List Operation) (size : ℕ) → IsGroup xs → size ≡
 grey_bounds xs size g e = λ t i n. let a = twice_bound xs t g i n in let h : size ≤ 2 * order_of t.parent = rw e a in omega arith
 
 pub plain_bounds : (xs : List Operation) (size : ℕ) (r : Operation) (b : Bool) → IsGroup xs → size ≡ length xs → r ≡ reversal → (IsTrue b ↔ Contains xs r) → b ≡ false → BoundsOrder xs size
-plain_bounds xs size r b g e q w f = λ t i n. rw e (once_bound xs t g (λ c. false_true (sym f ∙ w.1 (subst (Contains xs) (sym q) c))) i n)
-  where
-    false_true : false ≡ true → ⊥
-    false_true e = cc
+plain_bounds xs size r b g e q w f = λ t i n. rw e (once_bound xs t g (λ c. false≢true (sym f ∙ w.1 (subst (Contains xs) (sym q) c))) i n)

@@ -4,6 +4,7 @@ use Rattle.std.specs.Prelude.{None, map}
 use Rattle.std.specs.List.{flat_map}
 use Rattle.std.proofs.Math.Nat.{pow-succ'}
 use Rattle.std.proofs.lemmas.Nat.{pow_pos}
+use Rattle.std.proofs.lemmas.Bool.{false≢true}
 use Rattle.tensor_defs.specs.declared.Setting.{Setting}
 use Rattle.tensor_defs.specs.Lists.{Each, up_to}
 use Rattle.tensor_defs.specs.Operation.{Operation}
@@ -24,14 +25,11 @@ turned_below (suc k) n = rw (pow-succ' 2 k) (small (n % 2) (2 ^ k) (turned_bits 
 
 module _ (H : Operation → Type 0) (n : ℕ) (first : 1 ≤ n) (last : n ≤ 42) where
   module _ (s : Setting) (takes : takes_setting n s ≡ true) (out : (t : GroupSymbol) → IsGroupSymbol t → t.parent ≡ n → t.setting ≡ s → ¬ IsNamed t H) where
-    false_true : false ≡ true → ⊥
-    false_true e = cc
-
     primed_out : (ps : List ℕ) → Each (λ u. ¬ IsNamed u H) (map (λ p. record { parent = n; primes = turned_bits (operator_count n) p; grey = false; setting = s }) ps)
     primed_out [] = tt
     primed_out (p ∷ ps) = (
       out (record { parent = n; primes = turned_bits (operator_count n) p; grey = false; setting = s })
-          (record { first = first; last = last; primes = turned_below (operator_count n) p; plain = λ e. absurd (false_true e); setting = takes }) refl refl,
+          (record { first = first; last = last; primes = turned_below (operator_count n) p; plain = λ e. absurd (false≢true e); setting = takes }) refl refl,
       primed_out ps,
     )
 

@@ -43,6 +43,7 @@ fn may_name(group: &Group, tree: &SymbolTree) -> bool
     ensures within { result ≡ true → IsBelow (InGroup tree.now) (In group.now) }
     ensures other { result ≡ false → ¬ IsNamed tree.now (In group.now) }
 {
+    // what the length tells of the group is for the proof
     let _size = group.len();
     if !tree.is_grey() && group.has(&Op::reversal()) {
         return false;

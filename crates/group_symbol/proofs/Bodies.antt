@@ -1,6 +1,10 @@
 -- What the signs of a parent with their primes, and then a text that the primes allow, spell.
+--   Tails    what may stand behind the signs, by their primes
+--   IsOpen    each number of primes allows some tail, and no tail begins with a prime
+--   Outcome, two_more, walk_outcome    one byte ahead of a text of B is a text of A
 use Rattle.std.proofs.Common.{◌≡◌, ◌≢◌, ◌⊎◌, ℕ, suc, ◌+◌, ◌*◌, Bool, true, false, List, [], ◌∷◌, Result, Ok, Err, refl, sym, subst, ◌∙◌, arith, inl, inr}
 use Rattle.std.proofs.lemmas.Bool.Decides.{eqb_tells}
+use Rattle.list_laws.proofs.Tests.{next_number}
 use Rattle.fault_places.proofs.Places.{StopsAt, same_stop, same_stop_near, Through}
 use Rattle.text_defs.specs.GroupTexts.{ends_operator}
 use Rattle.group_symbol.specs.Walks.{lift, after_sign, walk}
@@ -70,16 +74,13 @@ abbrev pub Outcome : (List ℕ → Type 0) → Tails → List ℕ → Result (�
 Outcome Text Tail w (Ok x) = Through Text (Tail x.0) w x.1
 Outcome Text Tail w (Err n) = (Text w → ⊥) × StopsAt Text w n
 
-one_more : (n : ℕ) → suc n ≡ 1 + n
-one_more n = omega arith
-
-two_more : (n : ℕ) → suc (suc n) ≡ 2 + n
+pub two_more : (n : ℕ) → suc (suc n) ≡ 2 + n
 two_more n = omega arith
 
 one_ahead : (A B : List ℕ → Type 0) (b : ℕ) (bs : List ℕ) → ((z : List ℕ) → B z → A (b ∷ z)) → ((c : ℕ) (cs z : List ℕ) → bs ≡ c ∷ cs → A (b ∷ c ∷ z) → B (c ∷ z)) → (A (b ∷ bs) → B bs) → (Tail : Tails) (base factor : ℕ) (r : Result (ℕ × ℕ) ℕ) → Outcome B (λ p. Tail (base + factor * p)) bs r → Outcome A Tail (b ∷ bs) (lift base factor 1 r)
 unfolding lift
-one_ahead A B b bs to near back Tail base factor (Ok x) t = subst (Through A (Tail (base + factor * x.0)) (b ∷ bs)) (one_more x.1) (through_ahead A B b bs to near back (Tail (base + factor * x.0)) x.1 t)
-one_ahead A B b bs to near back Tail base factor (Err n) h = (λ a. h.0 (back a), subst (StopsAt A (b ∷ bs)) (one_more n) (stop_ahead A B b bs to near back n h.1))
+one_ahead A B b bs to near back Tail base factor (Ok x) t = subst (Through A (Tail (base + factor * x.0)) (b ∷ bs)) (next_number x.1) (through_ahead A B b bs to near back (Tail (base + factor * x.0)) x.1 t)
+one_ahead A B b bs to near back Tail base factor (Err n) h = (λ a. h.0 (back a), subst (StopsAt A (b ∷ bs)) (next_number n) (stop_ahead A B b bs to near back n h.1))
 
 two_ahead : (A B : List ℕ → Type 0) (b c : ℕ) (cs : List ℕ) → ((z : List ℕ) → B z → A (b ∷ c ∷ z)) → ((z : List ℕ) → A (b ∷ c ∷ z) → B z) → (Tail : Tails) (base factor : ℕ) (r : Result (ℕ × ℕ) ℕ) → Outcome B (λ p. Tail (base + factor * p)) cs r → Outcome A Tail (b ∷ c ∷ cs) (lift base factor 2 r)
 unfolding lift

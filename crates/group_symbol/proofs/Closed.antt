@@ -1,10 +1,13 @@
 -- The texts of signs with primes and a tail, taken apart into their primes and their tail.
-use Rattle.std.proofs.Common.{◌≡◌, ◌==◌, ℕ, suc, ◌+◌, ◌*◌, ◌/◌, ◌%◌, ◌<◌, ◌^◌, Bool, true, false, cond, List, [], ◌∷◌, ◌++◌, drop, Result, Ok, Err, refl, sym, ap, subst, ◌∙◌, arith, inl, inr, eq-eqb, lit<}
+--   spell    what with_primes writes of a sign
+--   Spelled    some primes below the limit, and a tail that they allow, make the word
+--   Taken, walk_taken    what a walk has read
+use Rattle.std.proofs.Common.{◌≡◌, ◌==◌, ℕ, ◌+◌, ◌*◌, ◌/◌, ◌%◌, ◌<◌, ◌^◌, Bool, true, false, cond, List, [], ◌∷◌, ◌++◌, drop, Result, Ok, Err, refl, sym, ap, subst, ◌∙◌, arith, inl, inr, eq-eqb, lit<}
 use Rattle.std.proofs.lemmas.Bool.Decides.{eqb_tells}
-use Rattle.std.proofs.Math.Nat.{pow-suc}
+use Rattle.list_laws.proofs.Tests.{next_number, double_power}
 use Rattle.text_defs.specs.GroupTexts.{ends_operator, operators_in, with_primes}
 use Rattle.group_symbol.specs.Walks.{lift, after_sign, walk}
-use Rattle.group_symbol.proofs.Bodies.{Tails, SignText, Body}
+use Rattle.group_symbol.proofs.Bodies.{Tails, SignText, Body, two_more}
 
 -- what with_primes writes of a sign
 abbrev pub spell : Bool → ℕ → (ℕ → List ℕ) → ℕ → List ℕ
@@ -13,15 +16,6 @@ spell e s f p = cond e (cond (p % 2 == 1) (s ∷ 39 ∷ f (p / 2)) (s ∷ f (p /
 -- Some primes below the limit, and a tail that they allow, make the word.
 abbrev pub Spelled : (ℕ → List ℕ) → ℕ → Tails → List ℕ → Type 0
 Spelled f limit Tail w = (p : ℕ) × (p < limit) × (r : List ℕ) × (w ≡ f p ++ r) × Tail p r
-
-pub doubled : (n : ℕ) → 2 ^ (1 + n) ≡ 2 ^ n + 2 ^ n
-doubled n = ap (λ (k : ℕ). 2 ^ k) (one_more n) ∙ pow-suc 2 n ∙ twice (2 ^ n)
-  where
-    one_more : (n : ℕ) → 1 + n ≡ suc n
-    one_more n = omega arith
-
-    twice : (k : ℕ) → k * 2 ≡ k + k
-    twice k = omega arith
 
 pub same_power : (n : ℕ) → 2 ^ (0 + n) ≡ 2 ^ n
 same_power n = ap (λ (k : ℕ). 2 ^ k) (none_more n)
@@ -49,11 +43,11 @@ module _ (Others : Tails → List ℕ → Type 0) (f : ℕ → List ℕ) (n : �
       (found.0, omega (arith, found.1, same_power n), found.2, ap (λ (q : ℕ). q ∷ bs) is ∙ ap (λ (l : List ℕ). s ∷ l) found.3, found.4)
   sign_spelled open_all true s Tail (b ∷ bs) (is, inl rest) =
       let found = open_all (λ p. Tail (2 * p)) bs rest in
-      (2 * found.0, omega (arith, found.1, doubled n), found.2, ap (λ (q : ℕ). q ∷ bs) is ∙ ap (λ (l : List ℕ). s ∷ l) found.3 ∙ ap (λ (l : List ℕ). l ++ found.2) (sym (spell_even s f found.0)), found.4)
+      (2 * found.0, omega (arith, found.1, double_power n), found.2, ap (λ (q : ℕ). q ∷ bs) is ∙ ap (λ (l : List ℕ). s ∷ l) found.3 ∙ ap (λ (l : List ℕ). l ++ found.2) (sym (spell_even s f found.0)), found.4)
   sign_spelled open_all true s Tail (b ∷ []) (is, inr rest) = absurd rest
   sign_spelled open_all true s Tail (b ∷ c ∷ cs) (is, inr rest) =
       let found = open_all (λ p. Tail (1 + 2 * p)) cs rest.1 in
-      (1 + 2 * found.0, omega (arith, found.1, doubled n), found.2, ap (λ (q : ℕ). q ∷ c ∷ cs) is ∙ ap (λ (q : ℕ). s ∷ q ∷ cs) rest.0 ∙ ap (λ (l : List ℕ). s ∷ 39 ∷ l) found.3 ∙ ap (λ (l : List ℕ). l ++ found.2) (sym (spell_odd s f found.0)), found.4)
+      (1 + 2 * found.0, omega (arith, found.1, double_power n), found.2, ap (λ (q : ℕ). q ∷ c ∷ cs) is ∙ ap (λ (q : ℕ). s ∷ q ∷ cs) rest.0 ∙ ap (λ (l : List ℕ). s ∷ 39 ∷ l) found.3 ∙ ap (λ (l : List ℕ). l ++ found.2) (sym (spell_odd s f found.0)), found.4)
 
   sign_body : (close_all : (T : Tails) (p : ℕ) (r : List ℕ) → p < 2 ^ n → T p r → Others T (f p ++ r)) (e : Bool) (s : ℕ) (Tail : Tails) (p : ℕ) (r : List ℕ) → p < 2 ^ (cond e 1 0 + n) → Tail p r → SignText e Others s Tail (spell e s f p ++ r)
   sign_body close_all false s Tail p r few t = (refl, close_all Tail p r (omega (arith, few, same_power n)) t)
@@ -62,11 +56,11 @@ module _ (Others : Tails → List ℕ → Type 0) (f : ℕ → List ℕ) (n : �
         | inl odd ↦
             let half : 1 + 2 * (p / 2) ≡ p = omega (arith, odd.1) in
             let T = λ (q : ℕ). Tail q r in
-            rw odd.0 (refl, inr (refl, close_all (λ q. Tail (1 + 2 * q)) (p / 2) r (omega (arith, few, doubled n, odd.1)) (subst T (sym half) t)))
+            rw odd.0 (refl, inr (refl, close_all (λ q. Tail (1 + 2 * q)) (p / 2) r (omega (arith, few, double_power n, odd.1)) (subst T (sym half) t)))
         | inr even ↦
             let half : 2 * (p / 2) ≡ p = omega (arith, even.1) in
             let T = λ (q : ℕ). Tail q r in
-            rw even.0 (refl, inl (close_all (λ q. Tail (2 * q)) (p / 2) r (omega (arith, few, doubled n)) (subst T (sym half) t)))
+            rw even.0 (refl, inl (close_all (λ q. Tail (2 * q)) (p / 2) r (omega (arith, few, double_power n)) (subst T (sym half) t)))
       ]
 
 pub body_spelled : (v : ℕ) (ss : List ℕ) (Tail : Tails) (w : List ℕ) → Body v ss Tail w → Spelled (with_primes v ss) (2 ^ operators_in v ss) Tail w
@@ -92,12 +86,6 @@ abbrev pub Taken : (ℕ → List ℕ) → ℕ → List ℕ → Result (ℕ × �
 Taken f limit w (Ok x) = (x.0 < limit) × (w ≡ f x.0 ++ drop x.1 w)
 Taken f limit w (Err n) = Unit {0}
 
-one_more : (n : ℕ) → suc n ≡ 1 + n
-one_more n = omega arith
-
-two_more : (n : ℕ) → suc (suc n) ≡ 2 + n
-two_more n = omega arith
-
 same_number : (p : ℕ) → p ≡ 0 + 1 * p
 same_number p = omega arith
 
@@ -106,17 +94,17 @@ even_number p = omega arith
 
 taken_plain : (f : ℕ → List ℕ) (n s : ℕ) (bs : List ℕ) (r : Result (ℕ × ℕ) ℕ) → Taken f (2 ^ n) bs r → Taken (spell false s f) (2 ^ (0 + n)) (s ∷ bs) (lift 0 1 1 r)
 unfolding lift
-taken_plain f n s bs (Ok x) h = (omega (arith, h.0, same_power n), ap (λ (l : List ℕ). s ∷ l) h.1 ∙ ap (λ (p : ℕ). s ∷ (f p ++ drop x.1 bs)) (same_number x.0) ∙ ap (λ (k : ℕ). s ∷ (f (0 + 1 * x.0) ++ drop k (s ∷ bs))) (one_more x.1))
+taken_plain f n s bs (Ok x) h = (omega (arith, h.0, same_power n), ap (λ (l : List ℕ). s ∷ l) h.1 ∙ ap (λ (p : ℕ). s ∷ (f p ++ drop x.1 bs)) (same_number x.0) ∙ ap (λ (k : ℕ). s ∷ (f (0 + 1 * x.0) ++ drop k (s ∷ bs))) (next_number x.1))
 taken_plain f n s bs (Err m) h = tt
 
 taken_unprimed : (f : ℕ → List ℕ) (n s : ℕ) (bs : List ℕ) (r : Result (ℕ × ℕ) ℕ) → Taken f (2 ^ n) bs r → Taken (spell true s f) (2 ^ (1 + n)) (s ∷ bs) (lift 0 2 1 r)
 unfolding lift
-taken_unprimed f n s bs (Ok x) h = (omega (arith, h.0, doubled n), ap (λ (l : List ℕ). s ∷ l) h.1 ∙ ap (λ (l : List ℕ). l ++ drop x.1 bs) (sym (spell_even s f x.0)) ∙ ap (λ (p : ℕ). spell true s f p ++ drop x.1 bs) (even_number x.0) ∙ ap (λ (k : ℕ). spell true s f (0 + 2 * x.0) ++ drop k (s ∷ bs)) (one_more x.1))
+taken_unprimed f n s bs (Ok x) h = (omega (arith, h.0, double_power n), ap (λ (l : List ℕ). s ∷ l) h.1 ∙ ap (λ (l : List ℕ). l ++ drop x.1 bs) (sym (spell_even s f x.0)) ∙ ap (λ (p : ℕ). spell true s f p ++ drop x.1 bs) (even_number x.0) ∙ ap (λ (k : ℕ). spell true s f (0 + 2 * x.0) ++ drop k (s ∷ bs)) (next_number x.1))
 taken_unprimed f n s bs (Err m) h = tt
 
 taken_primed : (f : ℕ → List ℕ) (n s : ℕ) (cs : List ℕ) (r : Result (ℕ × ℕ) ℕ) → Taken f (2 ^ n) cs r → Taken (spell true s f) (2 ^ (1 + n)) (s ∷ 39 ∷ cs) (lift 1 2 2 r)
 unfolding lift
-taken_primed f n s cs (Ok x) h = (omega (arith, h.0, doubled n), ap (λ (l : List ℕ). s ∷ 39 ∷ l) h.1 ∙ ap (λ (l : List ℕ). l ++ drop x.1 cs) (sym (spell_odd s f x.0)) ∙ ap (λ (k : ℕ). spell true s f (1 + 2 * x.0) ++ drop k (s ∷ 39 ∷ cs)) (two_more x.1))
+taken_primed f n s cs (Ok x) h = (omega (arith, h.0, double_power n), ap (λ (l : List ℕ). s ∷ 39 ∷ l) h.1 ∙ ap (λ (l : List ℕ). l ++ drop x.1 cs) (sym (spell_odd s f x.0)) ∙ ap (λ (k : ℕ). spell true s f (1 + 2 * x.0) ++ drop k (s ∷ 39 ∷ cs)) (two_more x.1))
 taken_primed f n s cs (Err m) h = tt
 
 taken_sign : (f : ℕ → List ℕ) (n : ℕ) (others : List ℕ → Result (ℕ × ℕ) ℕ) → ((w : List ℕ) → Taken f (2 ^ n) w (others w)) → (e : Bool) (s : ℕ) (bs : List ℕ) → Taken (spell e s f) (2 ^ (cond e 1 0 + n)) (s ∷ bs) (after_sign e others bs)

@@ -1,4 +1,5 @@
 -- What stands behind the signs: the grey suffix and the suffix of a setting.
+--   not_grey    where the word doesn't begin as grey
 use Rattle.std.proofs.Common.{◌≡◌, ◌≢◌, ℕ, zero, suc, ◌+◌, ◌<◌, ◌≤◌, Bool, true, false, List, [], ◌∷◌, length, get_or, refl, ap, subst, ◌∙◌, arith}
 use Rattle.text_defs.specs.Languages.{IsFaulty}
 use Rattle.fault_places.proofs.Places.{StopsAt, same_stop, same_stop_near, stops, faulty, Through}

@@ -1,9 +1,14 @@
 -- The texts of one parent's symbols.
+--   few_operators, no_primes, short_text, few_count    the table of parents
+--   EndingOf, EndingOf-open, symbol_is, full_text    the endings that a parent's primes allow
+--   body_full, full_body    a body and its ending are a full text
+--   signs_wrong    what the walk over a parent's signs tells of a word
 use Rattle.std.proofs.Common.{◌≡◌, ◌≤◌, ◌<◌, ◌^◌, ◌-◌, ◌+◌, ℕ, zero, suc, Bool, true, false, cond, eqb, List, [], ◌∷◌, ◌++◌, get_or, length, drop, Result, Ok, Err, refl, sym, ap, subst, ◌∙◌, arith, nat_le, IsTrue, inl, inr, eq-eqb}
 use Rattle.std.specs.Prelude.{◌&&◌}
 use Rattle.std.specs.List.{list_all}
 use Rattle.std.proofs.lemmas.Bool.Decides.{eqb_tells}
 use Rattle.std.proofs.lemmas.Bool.{leb-true, eqb-true}
+use Rattle.list_laws.proofs.Tests.{both}
 use Rattle.text_defs.specs.Languages.{IsFaulty}
 use Rattle.fault_places.proofs.Places.{Through, Through-faulty, faulty, same_faulty}
 use Rattle.tensor_defs.specs.declared.Setting.{Setting}
@@ -58,15 +63,11 @@ sound_says (s ∷ ss) e =
     clash : false ≡ true → ⊥
     clash e = cc
 
-both_say : (a b : Bool) → cond a b false ≡ true → (a ≡ true) × (b ≡ true)
-both_say true b e = (refl, e)
-both_say false b e = absurd cc
-
 pub few_operators : (n : ℕ) → operators_in 0 (parent_text n) ≤ 4
-few_operators n = leb-true _ _ (both_say (nat_le (operators_in 0 (parent_text n)) 4) (sound (parent_text n)) (row_holds n)).0
+few_operators n = leb-true _ _ (both (nat_le (operators_in 0 (parent_text n)) 4) (sound (parent_text n)) (row_holds n)).0
 
 pub no_primes : (n : ℕ) → NoPrimes (parent_text n)
-no_primes n = sound_says (parent_text n) (both_say (nat_le (operators_in 0 (parent_text n)) 4) (sound (parent_text n)) (row_holds n)).1
+no_primes n = sound_says (parent_text n) (both (nat_le (operators_in 0 (parent_text n)) 4) (sound (parent_text n)) (row_holds n)).1
 
 -- no text has more than five signs
 all_short : list_all (λ t. nat_le (length t) 5) parent_texts ≡ true

@@ -1,4 +1,5 @@
 -- A walk over the signs of a parent, sign by sign.
+--   Stands    where the loop over the signs stands
 use Rattle.std.proofs.Common.{◌≡◌, ◌≢◌, ℕ, zero, suc, ◌+◌, ◌*◌, ◌<◌, ◌≤◌, ◌^◌, Bool, true, false, cond, List, [], ◌∷◌, length, get_or, drop, Result, Ok, Err, refl, sym, ap, ◌∙◌, arith, eq-eqb, lit≤, inl, inr}
 use Rattle.std.proofs.lemmas.List.{drop_more}
 use Rattle.std.proofs.lemmas.Bool.{ne_eqb, cases_lt}

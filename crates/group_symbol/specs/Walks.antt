@@ -1,4 +1,7 @@
 -- Reading the signs of a parent with their primes from the front of a word.
+--   lift    the outcome of a walk, after k bytes whose primes make the number base and whose next bit is worth factor
+--   after_sign    a sign is taken, and the primes after it, if it ends an operator
+--   walk    the primes and the number of bytes that the signs take, or the place of the first byte that is wrong
 use Rattle.std.specs.Prelude.{◌≡◌, ℕ, ◌+◌, ◌*◌, ◌==◌, Bool, true, false, List, [], ◌∷◌, Result, Ok, Err, if◌then◌else◌}
 use Rattle.text_defs.specs.declared.Fault.{Fault}
 use Rattle.text_defs.specs.GroupTexts.{ends_operator}

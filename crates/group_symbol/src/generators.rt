@@ -82,7 +82,7 @@ impl Generators {
 }
 
 /// The direction that a setting puts in place of one of the default setting.
-fn turned_to(setting: Setting, direction: Direction) -> Direction
+pub fn turned_to(setting: Setting, direction: Direction) -> Direction
     ensures { result ≡ turned_to setting direction }
 {
     match (setting, direction) {

@@ -11,15 +11,15 @@ mod suffixes;
 mod tree;
 mod write;
 
-pub use generators::{Generators, generators_of};
+pub use generators::{Generators, generators_of, turned_to};
 pub use laws::{written_text_reads_back, written_text_spells};
 pub use op_matrix::Op;
 pub use parents::Parent;
-pub use read::read_group;
+pub use read::{common_front, read_group};
 pub use tensor_defs::{Direction, OpKind, Setting};
 pub use text_defs::Fault;
 pub use tree::SymbolTree;
-pub use write::{NoMemory, write_group};
+pub use write::{NoMemory, setting_text, write_group};
 
 #[cfg(test)]
 mod tests;

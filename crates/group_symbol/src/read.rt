@@ -12,7 +12,7 @@ use tensor_defs::Setting;
 use text_defs::Fault;
 
 /// How many bytes two texts have in common from their beginnings.
-fn common_front(a: &[u8], b: &[u8]) -> usize
+pub fn common_front(a: &[u8], b: &[u8]) -> usize
     ensures within_a { result ≤ length a.now }
     ensures within_b { result ≤ length b.now }
     ensures same { take result a.now ≡ take result b.now }

@@ -1,3 +1,4 @@
+//! Worked words of group symbols.
 use super::*;
 use std::test::Fail;
 

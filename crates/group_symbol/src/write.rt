@@ -32,7 +32,7 @@ fn push_signs(signs: &[u8], primes: u8, text: &mut ShortText)
 }
 
 /// The suffix that is written for a setting.
-fn setting_text(setting: Setting) -> &'static [u8]
+pub fn setting_text(setting: Setting) -> &'static [u8]
     ensures value { result.now ≡ setting_text setting }
     ensures short { length result.now ≤ 3 }
 {

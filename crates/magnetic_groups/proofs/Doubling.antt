@@ -1,26 +1,35 @@
 -- A group grows by the products of a new operation with its elements: as many again.
-use Rattle.std.proofs.Common.{◌≡◌, ℕ, zero, suc, ◌+◌, ◌-◌, ◌*◌, ◌^◌, ◌/◌, ◌%◌, ◌<◌, ◌≤◌, Bool, true, false, List, [], ◌∷◌, ◌++◌}
+--   span_more    more generators span more
+--   cancelled    what is multiplied by an operation can be told from the product
+--   span_kept    a product with an operation outside is outside
+--   doubled_none, doubled_more    the doubling
+--   few, room_left    at most 96 operations have one frame
+--   doubled_closed, taken_span, span_none, doubled_common
+--       after the doubling the first elements are done for the new operation too
+use Rattle.std.proofs.Common.{[], ◌≡◌, ℕ, zero, suc, ◌+◌, ◌-◌, ◌*◌, ◌^◌, ◌/◌, ◌%◌, ◌<◌, ◌≤◌, Bool, true, false, List, ◌∷◌, ◌++◌}
 use Rattle.std.proofs.Common.{length, refl, ap, sym, ◌∙◌, arith, subst, lit<, lit≤, ◌⊎◌, inl, inr, cond, add-one}
 use Rattle.std.specs.Prelude.{slice_index_or, set, Contains, nat_eq}
 use Rattle.std.proofs.Math.Nat.{pow-le-pow_right, pow-succ'}
 use Rattle.std.proofs.lemmas.List.{get_or_push, length_push, get_or_append_left}
 use Rattle.std.proofs.lemmas.List.Elements.{Contains-append_left, Contains-push}
+use Rattle.std.proofs.lemmas.Bool.{cases_lt}
+use Rattle.list_laws.proofs.Below.{all_below, below_told}
+use Rattle.list_laws.proofs.Tests.{same_bool, same_bool_true}
 use Rattle.tensor_defs.specs.Operation.{Operation, IsProduct, identity}
 use Rattle.tensor_defs.specs.Frames.{IsPlain, IsHexagonal, HaveCommonFrame}
 use Rattle.tensor_laws.proofs.Products.{product_unique}
 use Rattle.tensor_laws.proofs.Associativity.{product_assoc, product_assoc_back}
 use Rattle.op_matrix.specs.Table.{nth_operation, operation_at, place}
-use Rattle.op_matrix.specs.Tests.{all_below, below_told}
 use Rattle.op_matrix.specs.View.{plain_frame, hex_frame}
-use Rattle.op_matrix.proofs.Facts.{inverse_at, inverse_code}
+use Rattle.op_matrix.proofs.Facts.{inverse_at, inverse_code, half_below}
 use Rattle.op_matrix.proofs.Products.{frame_code}
-use Rattle.op_matrix.proofs.Hexagonal.{plain_at_of, hex_of, same_bool, same_bool_true}
+use Rattle.op_matrix.proofs.Hexagonal.{plain_at_of, hex_of}
 use Rattle.op_matrix.proofs.Order.{inverse_plain, inverse_hex, plain_closed, hex_closed}
 use Rattle.op_matrix.proofs.Listed.{plain_listed, hex_listed, plain_one, hex_one, OneTimes}
 use Rattle.magnetic_groups.specs.Marks.{mark_at, marked_below, Reached, Added, unmarked, IsClosing, IsClosed, Grows, TimesReached, IsDone}
 use Rattle.magnetic_groups.specs.Sets.{HaveFrame, Spanned, IsKept, InverseIn}
 use Rattle.magnetic_groups.specs.Greedy.{IsSpan, IsDoubled}
-use Rattle.magnetic_groups.proofs.Reaching.{nat_split, spanned_times, spanned_framed, spanned_plain, spanned_hex, reached_spanned, reached_more, times_more}
+use Rattle.magnetic_groups.proofs.Reaching.{spanned_times, spanned_framed, spanned_plain, spanned_hex, reached_spanned, reached_more, times_more}
 use Rattle.magnetic_groups.proofs.Reaching.{grows_refl, grows_trans, added_grows, added_closing, unreached, mark_inside}
 use Rattle.magnetic_groups.proofs.Spans.{common_product, closed_kept, contains_reached, each_map, no_frame}
 
@@ -102,7 +111,7 @@ doubled_none gens f m h i = record {
     }
 
 fresh : (gens f f' : List Operation) (m m' : List Bool) (n : ℕ) (h s p : Operation) → IsSpan gens m f → HaveFrame (gens ++ h ∷ []) → mark_at m (place h) ≡ false → IsDoubled gens h n m f m' f' → n < length f → ((d : Operation) → slice_index_or f' n d ≡ s) → IsProduct h s p → place p < 128 → p ≡ nth_operation (place p) → mark_at m' (place p) ≡ true → ⊥
-fresh gens f f' m m' n h s p i fr u b l at q below is e = by (nat_split c.0 (length f))
+fresh gens f f' m m' n h s p i fr u b l at q below is e = by (cases_lt c.0 (length f))
   where
     c : Contains f' p
     c = subst (Contains f') (sym is) (b.closing.waiting (place p) e)
@@ -146,7 +155,7 @@ doubled_more gens f f' f'' m m' m'' n h s p i fr u b l at q a = by a.either
       closing = added_closing (gens ++ h ∷ []) p m' m'' f' f'' b.closing a spanned;
       grows = grows_trans m m' m'' f f' f'' b.grows grew;
       size = ap length x ∙ longer;
-      times = λ r d k. last r d k (nat_split r n);
+      times = λ r d k. last r d k (cases_lt r n);
     }
       where
         longer : length (f' ++ p ∷ []) ≡ length f + (n + 1)
@@ -207,9 +216,6 @@ unmarked_more [] (c ∷ p) e h = absurd (omega arith)
 unmarked_more (b ∷ m) [] e h = absurd (omega arith)
 unmarked_more (b ∷ m) (c ∷ p) e h = fewer_at m p b c (unmarked m) (unmarked p) (h 0) (unmarked_more m p (omega arith) (λ k. h (suc k)))
 
-half_below : (k : ℕ) → k < 128 → k / 2 < 64
-half_below k h = omega arith
-
 pub few : (gens f : List Operation) (m : List Bool) → HaveFrame gens → IsClosing gens m f → length f ≤ 96
 unfolding nth_operation
 few gens f m (inl fr) c =
@@ -245,11 +251,11 @@ room_left gens f f' m m' h i fr b =
     let n = few (gens ++ h ∷ []) f' m' fr b.closing in
     let s = b.size in
     let d = i.doubled in
-    small_power (length gens) (omega arith) (nat_split (length gens) 6)
+    small_power (length gens) (omega arith) (cases_lt (length gens) 6)
 
 -- ---- after the doubling the first elements are done for the new operation too
 done_twice : (gens f f' : List Operation) (m m' : List Bool) (h : Operation) → IsSpan gens m f → IsDoubled gens h (length f) m f m' f' → (j : ℕ) (d : Operation) → j < length f → IsDone (gens ++ h ∷ []) m' (slice_index_or f' j d)
-done_twice gens f f' m m' h i b j d l q e k = by (nat_split q (length gens))
+done_twice gens f f' m m' h i b j d l q e k = by (cases_lt q (length gens))
   where
     same : slice_index_or f' j d ≡ slice_index_or f j d
     same = b.grows.same j d l

@@ -1,18 +1,21 @@
 -- A closed set of operations of one frame holds their inverses, since the twelfth power of each is the identity.
+--   inverse_in, closed_inverse    the twelfth power of each matrix is the identity
 use Rattle.std.proofs.Common.{◌≡◌, ℕ, zero, suc, ◌<◌, Bool, true, false, List, refl, ap, sym, ◌∙◌, subst, lit<, inl}
 use Rattle.std.proofs.Common.{inr}
 use Rattle.std.specs.Prelude.{Contains, nat_eq}
+use Rattle.std.proofs.lemmas.Bool.{eqb-true}
+use Rattle.list_laws.proofs.Below.{all_below, below_told}
+use Rattle.list_laws.proofs.Tests.{both}
 use mathlib.Core.Bool.{xor}
 use Rattle.tensor_defs.specs.Operation.{Operation, IsProduct, identity}
 use Rattle.tensor_laws.proofs.Products.{product_unique}
-use Rattle.op_matrix.specs.Tests.{all_below, below_told, both, nat_eq_means}
 use Rattle.op_matrix.specs.Table.{operation_at}
 use Rattle.op_matrix.specs.View.{hex_frame, plain_frame}
 use Rattle.op_matrix.specs.declared.entry.Frame.{Frame}
 use Rattle.op_matrix.proofs.Frames.{also}
 use Rattle.op_matrix.proofs.Products.{product_code, frame_code, common, product_at, product_code_below}
-use Rattle.op_matrix.proofs.Hexagonal.{hex_common, plain_common, hex_kept_at, plain_kept_at}
-use Rattle.op_matrix.proofs.Listed.{Coded, plain_listed, hex_listed}
+use Rattle.op_matrix.proofs.Hexagonal.{hex_common, plain_common, hex_kept_at, plain_kept_at, identity_at, zero_hex}
+use Rattle.op_matrix.proofs.Listed.{Coded, plain_listed, hex_listed, zero_plain}
 use Rattle.magnetic_groups.specs.Sets.{In, HaveFrame, InverseIn}
 
 -- ---- the twelfth power of each matrix is the identity
@@ -41,18 +44,6 @@ unfolding xor
 no_mark_left true = refl
 no_mark_left false = refl
 
-identity_is : identity ≡ operation_at 0 false
-unfolding operation_at
-identity_is = refl
-
-zero_plain : plain_frame (frame_code 0) ≡ true
-unfolding frame_code
-zero_plain = refl
-
-zero_hex : hex_frame (frame_code 0) ≡ true
-unfolding frame_code
-zero_hex = refl
-
 -- an operation whose powers are all in a closed set has its inverse there
 module _ (F : Operation → Type 0) (one : F identity) (closed : (g h : Operation) → F g → F h → (k : Operation) × F k ×
     IsProduct g h k)
@@ -65,7 +56,7 @@ module _ (F : Operation → Type 0) (one : F identity) (closed : (g h : Operatio
 
   power_in : (n : ℕ) (p : Bool) → n < 64 → fr (frame_code n) ≡ true → F (operation_at n p) → (k : ℕ) → PowerIn n p k
   unfolding power_code
-  power_in n p h f m zero = (lit< tt, zero_in, subst F identity_is one)
+  power_in n p h f m zero = (lit< tt, zero_in, subst F identity_at one)
   power_in n p h f m (suc k) =
       let r : PowerIn n p k = power_in n p h f m k in
       let c : (x : Operation) × F x × IsProduct (operation_at n p) (operation_at (power_code n k) (mark_power p k)) x =
@@ -91,11 +82,11 @@ module _ (F : Operation → Type 0) (one : F identity) (closed : (g h : Operatio
         k,
         r.2,
         subst (IsProduct (operation_at n p) k) (ap (λ x. operation_at x false)
-            (nat_eq_means (product_code n (power_code n 11)) 0 t.0) ∙ sym identity_is)
+            (eqb-true (product_code n (power_code n 11)) 0 t.0) ∙ sym identity_at)
             (product_at n (power_code n 11) p (mark_power p 11) false h r.0
             (meet (frame_code n) (frame_code (power_code n 11)) f r.1) (no_mark p)),
         subst (IsProduct k (operation_at n p)) (ap (λ x. operation_at x false)
-            (nat_eq_means (product_code (power_code n 11) n) 0 t.1) ∙ sym identity_is)
+            (eqb-true (product_code (power_code n 11) n) 0 t.1) ∙ sym identity_at)
             (product_at (power_code n 11) n (mark_power p 11) p false r.0 h
             (meet (frame_code (power_code n 11)) (frame_code n) r.1 f) (no_mark_left p)),
       )

@@ -1,12 +1,19 @@
 -- The list of the operations at marked places.
+--   Below    marked below n
+--   marked_rising    it rises
+--   marked_first    its first member
+--   marked_length    and its length
 use Rattle.std.proofs.Common.{◌≡◌, ℕ, zero, suc, ◌+◌, ◌<◌, ◌≤◌, Bool, true, false, List, [], ◌∷◌, ◌++◌}
 use Rattle.std.proofs.Common.{length, refl, sym, ◌∙◌, arith, subst, inl, inr, add-one}
-use Rattle.std.specs.Prelude.{nat_lt, Contains, IsTrue, slice_index_or, slice_get, Some}
+use Rattle.std.specs.Prelude.{nat_lt, Contains, IsTrue, slice_get, Some}
 use Rattle.std.proofs.lemmas.Bool.Decides.{nat_tests}
 use Rattle.std.proofs.lemmas.List.{length-append}
 use Rattle.std.proofs.lemmas.List.Elements.{Contains-append_left, Contains-push, Contains-push_cases}
+use Rattle.list_laws.proofs.Rising.{rising_push}
+use Rattle.list_laws.proofs.Members.{each_from}
+use Rattle.list_laws.proofs.Lists.{none_held}
 use Rattle.tensor_defs.specs.Operation.{Operation}
-use Rattle.tensor_defs.specs.Lists.{Each, IsRising}
+use Rattle.tensor_defs.specs.Lists.{IsRising}
 use Rattle.tensor_defs.specs.OperationOrder.{comes_before}
 use Rattle.op_matrix.specs.Table.{nth_operation}
 use Rattle.op_matrix.proofs.Facts.{before_places}
@@ -28,9 +35,6 @@ Below n m g = (k : ℕ) × (k < n) × (mark_at m k ≡ true) × (g ≡ nth_opera
 more : (n : ℕ) (m : List Bool) (g : Operation) → Below n m g → Below (n + 1) m g
 more n m g b = let h = b.1 in (b.0, omega arith, b.2, b.3)
 
-no_element : (g : Operation) → Contains [] g → ⊥
-no_element g c = let h = c.1 in omega arith
-
 contains_step : (n : ℕ) (m : List Bool) (g : Operation) (b : Bool) → mark_at m n ≡ b →
     (Contains (marked_below n m) g → Below n m g) → Contains (marked_below (n + 1) m) g → Below (n + 1) m g
 contains_step n m g true e h c = elim (Contains-push_cases (marked_below n m) (nth_operation n) g
@@ -43,7 +47,7 @@ contains_step n m g false e h c = more n m g (h (subst (λ xs. Contains xs g) (m
 
 pub contains_told : (n : ℕ) (m : List Bool) (g : Operation) → Contains (marked_below n m) g → Below n m g
 unfolding marked_below
-contains_told zero m g c = absurd (no_element g c)
+contains_told zero m g c = absurd (none_held g c)
 contains_told (suc n) m g c = subst (λ x. Below x m g) (add-one n)
     (contains_step n m g (mark_at m n) refl (contains_told n m g)
     (subst (λ x. Contains (marked_below x m) g) (sym (add-one n)) c))
@@ -72,30 +76,6 @@ contains_of (suc n) k m h e = subst (λ x. Contains (marked_below x m) (nth_oper
     (contains_by n k m (nat_lt k n) refl (omega arith) e (λ l. contains_of n k m l e))
 
 -- ---- it rises
-pub each_push : (xs : List Operation) (P : Operation → Type 0) (y : Operation) → Each P xs → P y → Each P (xs ++ y ∷ [])
-each_push [] P y e p = (p, tt)
-each_push (x ∷ xs) P y e p = (e.0, each_push xs P y e.1 p)
-
-pub rising_push : (xs : List Operation) (y : Operation) → IsRising comes_before xs →
-    Each (λ x. IsTrue (comes_before x y)) xs → IsRising comes_before (xs ++ y ∷ [])
-rising_push [] y r e = (tt, tt)
-rising_push (x ∷ xs) y r e = (each_push xs (λ b. IsTrue (comes_before x b)) y r.0 e.0, rising_push xs y r.1 e.1)
-
-pub each_told : (xs : List Operation) (P : Operation → Type 0) → ((x : Operation) → Contains xs x → P x) → Each P xs
-each_told [] P h = tt
-each_told (x ∷ xs) P h = (
-  h x (0, omega arith, refl),
-  each_told xs P
-      (λ y c. h y (c.0 + 1, later xs c.0 c.1, at_later x y xs c.0 c.2)),
-)
-  where
-    later : (xs : List Operation) (k : ℕ) → k < length xs → k + 1 < suc (length xs)
-    later xs k h = omega arith
-
-    at_later : (x y : Operation) (xs : List Operation) (k : ℕ) → slice_index_or xs k y ≡ y →
-        slice_index_or (x ∷ xs) (k + 1) y ≡ y
-    at_later x y xs k e = rw add-one e
-
 is_before : (k n : ℕ) → k < n → n < 128 → IsTrue (comes_before (nth_operation k) (nth_operation n))
 is_before k n h l = before_places k n (omega arith) l ∙ lt_true
   where
@@ -105,8 +85,7 @@ is_before k n h l = before_places k n (omega arith) l ∙ lt_true
 rising_step : (n : ℕ) (m : List Bool) (b : Bool) → mark_at m n ≡ b → n < 128 →
     IsRising comes_before (marked_below n m) → IsRising comes_before (marked_below (n + 1) m)
 rising_step n m true e h r = subst (IsRising comes_before) (sym (marked_next n m e))
-    (rising_push (marked_below n m) (nth_operation n) r (each_told (marked_below n m)
-    (λ x. IsTrue (comes_before x (nth_operation n))) (λ x c. let b : Below n m x =
+    (rising_push comes_before (marked_below n m) (nth_operation n) r (each_from (λ x. IsTrue (comes_before x (nth_operation n))) (marked_below n m) (λ x c. let b : Below n m x =
     contains_told n m x c in subst (λ y. IsTrue (comes_before y (nth_operation n))) (sym b.3) (is_before b.0 n b.1 h))))
 rising_step n m false e h r = subst (IsRising comes_before) (sym (marked_past n m e)) r
 

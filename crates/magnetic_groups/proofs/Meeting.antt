@@ -1,7 +1,11 @@
 -- The members of a group that stay in it when an operation carries them.
+--   inverse_common    the products that carry an element
+--   pair_told    the test of one element
+--   IsMeeting    the elements before place n that are met are marked
 use Rattle.std.proofs.Common.{◌≡◌, ℕ, ◌+◌, ◌<◌, ◌≤◌, Bool, true, false, List, length, refl, ap, sym, ◌∙◌, arith, subst, ◌⊎◌, inl, inr, lit<}
 use Rattle.std.specs.Prelude.{Contains, ◌↔◌, IsTrue, slice_index_or, set, replicate, Some}
 use Rattle.std.proofs.lemmas.List.{length-set}
+use Rattle.std.proofs.lemmas.Bool.{cases_lt, false≢true}
 use Rattle.tensor_defs.specs.Operation.{Operation, IsProduct, identity}
 use Rattle.tensor_defs.specs.OperationOrder.{comes_before}
 use Rattle.tensor_defs.specs.Lists.{IsListing}
@@ -18,7 +22,7 @@ use Rattle.magnetic_groups.proofs.Inverses.{closed_inverse}
 use Rattle.magnetic_groups.proofs.Marked.{contains_told, contains_of, marked_rising, marked_first}
 use Rattle.magnetic_groups.proofs.Members.{member_framed}
 use Rattle.magnetic_groups.proofs.Spans.{common_product, place_is_zero, first_is}
-use Rattle.magnetic_groups.proofs.Reaching.{nat_split, set_told, set_kept, set_new, no_mark}
+use Rattle.magnetic_groups.proofs.Reaching.{set_told, set_kept, set_new, no_mark}
 use Rattle.magnetic_groups.proofs.Cosets.{group_one}
 
 fits_one : (xs : List Operation) (g : Operation) → FitsFrame xs g → OneTimes g
@@ -83,7 +87,7 @@ module _ (xs : List Operation) (g : Operation) (i : IsGroup xs) (fits : FitsFram
   }
 
   held_next : (m m' : List Bool) (n : ℕ) (k : Operation) → ((j : ℕ) → mark_at m j ≡ true → mark_at m' j ≡ true) → IsMeeting n m → ((d : Operation) → slice_index_or xs n d ≡ k) → (InPairGroup (In xs) g k → mark_at m' (place k) ≡ true) → (q : ℕ) (d : Operation) → q < n + 1 → InPairGroup (In xs) g (slice_index_or xs q d) → mark_at m' (place (slice_index_or xs q d)) ≡ true
-  held_next m m' n k w i at t q d h p = by (nat_split q n)
+  held_next m m' n k w i at t q d h p = by (cases_lt q n)
     where
       by : (q < n) ⊎ (n ≤ q) → mark_at m' (place (slice_index_or xs q d)) ≡ true
       by (inl a) = w (place (slice_index_or xs q d)) (i.held q d a p)
@@ -96,11 +100,8 @@ module _ (xs : List Operation) (g : Operation) (i : IsGroup xs) (fits : FitsFram
   meeting_skip n m k b i at t f = record {
     sized = i.sized;
     inside = i.inside;
-    held = held_next m m n k (λ j e. e) i at (λ p. absurd (false_true (sym f ∙ t.1 p)));
+    held = held_next m m n k (λ j e. e) i at (λ p. absurd (false≢true (sym f ∙ t.1 p)));
   }
-    where
-      false_true : false ≡ true → ⊥
-      false_true e = cc
 
   pub meeting_more : (n l : ℕ) (m : List Bool) (k : Operation) (b : Bool) → IsMeeting n m → ((d : Operation) → slice_index_or xs n d ≡ k) → (IsTrue b ↔ InPairGroup (In xs) g k) → b ≡ true → l ≡ place k → l < 128 → k ≡ nth_operation l → IsMeeting (n + 1) (set m l true)
   meeting_more n l m k b i at t f e h w = record {

@@ -5,12 +5,12 @@ use Rattle.std.specs.Prelude.{slice_index_or, slice_get, Option, Some, None, is_
 use Rattle.std.specs.Prelude.{nat_eq}
 use Rattle.std.proofs.lemmas.List.Elements.{Contains-get_or}
 use Rattle.std.proofs.lemmas.Option.{slice_get-get_or}
+use Rattle.std.proofs.lemmas.Bool.{eqb-true, false≢true}
 use Rattle.tensor_defs.specs.declared.OpKind.TheVariants.{Three}
 use Rattle.tensor_defs.specs.declared.Direction.TheVariants.{Z}
 use Rattle.tensor_defs.specs.Symbols.{operation_of}
 use Rattle.tensor_defs.specs.Operation.{Operation, identity}
 use Rattle.tensor_defs.specs.Frames.{IsPlain, IsHexagonal, AllOf, IsThe, IsFramed}
-use Rattle.op_matrix.specs.Tests.{nat_eq_means}
 use Rattle.op_matrix.specs.Table.{place}
 use Rattle.op_matrix.specs.Laws.{HasFrame}
 use Rattle.op_matrix.proofs.Order.{same_place}
@@ -38,7 +38,7 @@ found_at gens items view m n g op i e h at c t =
     same =
         same_place g op (member_framed items g i.group.frame inside)
         (member_framed items op i.group.frame (subst (λ xs. Contains xs op) (sym e) c))
-        (nat_eq_means (place g) (place op) t)
+        (eqb-true (place g) (place op) t)
 
 pub subset_told : (xs ys : List Operation) (r : Option ℕ) (b : Bool) → is_some r ≡ not b → TellsOutside xs ys r →
     IsTrue b ↔ IsWithin xs ys
@@ -46,12 +46,9 @@ subset_told xs ys None true e t = (λ h. t, λ w. refl)
 subset_told xs ys None false e t = cc
 subset_told xs ys (Some k) true e t = cc
 subset_told xs ys (Some k) false e t = (
-  λ h. absurd (false_true h),
+  λ h. absurd (false≢true h),
   λ w. absurd (t.outside identity (w (slice_index_or xs k identity) (Contains-get_or xs k identity t.below))),
 )
-  where
-    false_true : false ≡ true → ⊥
-    false_true e = cc
 
 -- not all plain, so all hexagonal; then framed exactly where 3z is an element
 pub framed_told : (xs : List Operation) (turn : Operation) (p b : Bool) (o : Option Operation) →
@@ -66,14 +63,11 @@ framed_told xs turn p b o plain hex f e is has = (forth, back)
     out : {a c : Operation} → Some a ≡ Some c → a ≡ c
     out e = cc
 
-    false_true : false ≡ true → ⊥
-    false_true e = cc
-
     forth : IsTrue b → IsFramed (In xs)
     forth t = inr (hex f, λ g h. subst (Contains xs) (out (sym the ∙ h)) (has.0 t))
 
     back : IsFramed (In xs) → IsTrue b
-    back (inl a) = absurd (false_true (sym f ∙ plain.1 a))
+    back (inl a) = absurd (false≢true (sym f ∙ plain.1 a))
     back (inr a) = has.1 (a.1 turn the)
 
 -- an element that isn't plain makes the group hexagonal
@@ -81,9 +75,6 @@ pub rest_hexagonal : (items view : List Operation) (n : ℕ) (g : Operation) (b 
     n < length items → g ≡ slice_index_or items n g → (IsTrue b ↔ IsPlain g) → b ≡ false → AllOf (In view) IsHexagonal
 rest_hexagonal items view n g b f e h at t q = subst (λ xs. AllOf (In xs) IsHexagonal) e (by f)
   where
-    false_true : false ≡ true → ⊥
-    false_true e = cc
-
     by : HaveFrame items → AllOf (In items) IsHexagonal
-    by (inl p) = absurd (false_true (sym q ∙ t.1 (p g (subst (Contains items) (sym at) (Contains-get_or items n g h)))))
+    by (inl p) = absurd (false≢true (sym q ∙ t.1 (p g (subst (Contains items) (sym at) (Contains-get_or items n g h)))))
     by (inr p) = p

@@ -1,10 +1,15 @@
 -- Closing a list of operations under the products with generators.
+--   mark_inside, set_told, set_kept, set_new, set_unmarked    marks
+--   spanned_times, spanned_one, spanned_plain, spanned_hex, spanned_framed, span_frame    spans
+--   reached_spanned, reached_more, times_more, grows_refl, grows_trans, added_grows ..    one more operation
+--   IsReaching, reaching_none, reaching_more    the products of one element with all generators
+--   no_mark, closed_none, closed_more, work_falls, reached_all, held_at ..    the whole closing
 use Rattle.std.proofs.Common.{◌≡◌, ℕ, zero, suc, ◌+◌, ◌-◌, ◌*◌, ◌<◌, ◌≤◌, ◌≢◌, Bool, true, false, List, [], ◌∷◌, ◌++◌}
 use Rattle.std.proofs.Common.{length, refl, ap, sym, ◌∙◌, arith, subst, ◌⊎◌, inl, inr}
-use Rattle.std.proofs.lemmas.Bool.Decides.{nat_tests}
-use Rattle.std.specs.Prelude.{nat_lt, replicate, set, slice_index_or, Contains}
+use Rattle.std.specs.Prelude.{replicate, set, slice_index_or, Contains}
 use Rattle.std.proofs.lemmas.List.{length-set, get_or_append_left, get_or_push, length-append}
 use Rattle.std.proofs.lemmas.List.Elements.{Contains-append_left, Contains-push, Contains-get_or, Contains-push_cases}
+use Rattle.std.proofs.lemmas.Bool.{cases_lt}
 use Rattle.tensor_defs.specs.Operation.{Operation, IsProduct, identity}
 use Rattle.tensor_defs.specs.Frames.{IsPlain, IsHexagonal, HaveCommonFrame}
 use Rattle.tensor_laws.proofs.Products.{generated_within}
@@ -45,14 +50,6 @@ set_unmarked (true ∷ bs) zero h e = cc
 set_unmarked (false ∷ bs) zero h e = refl
 set_unmarked (true ∷ bs) (suc p) h e = set_unmarked bs p (omega arith) e
 set_unmarked (false ∷ bs) (suc p) h e = ap (λ n. 1 + n) (set_unmarked bs p (omega arith) e)
-
--- ---- numbers
-nat_split_by : (q n : ℕ) (b : Bool) → nat_lt q n ≡ b → (q < n) ⊎ (n ≤ q)
-nat_split_by q n true e = let h : q < n = grind (arith, nat_tests) in inl h
-nat_split_by q n false e = let h : n ≤ q = grind (arith, nat_tests) in inr h
-
-pub nat_split : (q n : ℕ) → (q < n) ⊎ (n ≤ q)
-nat_split q n = nat_split_by q n (nat_lt q n) refl
 
 -- ---- spans
 pub spanned_times : (gens : List Operation) (s g k : Operation) → Contains gens s → Spanned gens g → IsProduct s g k →
@@ -148,7 +145,7 @@ apart_new : (f : List Operation) (g : Operation) (m : List Bool) → mark_at m (
     ((i j : ℕ) (d : Operation) → i < j → j < length f → slice_index_or f i d ≢ slice_index_or f j d) →
     (i j : ℕ) (d : Operation) → i < j → j < length (f ++ g ∷ []) →
     slice_index_or (f ++ g ∷ []) i d ≢ slice_index_or (f ++ g ∷ []) j d
-apart_new f g m u held apart i j d h l = λ e. by e (nat_split j (length f))
+apart_new f g m u held apart i j d h l = λ e. by e (cases_lt j (length f))
   where
     by : slice_index_or (f ++ g ∷ []) i d ≡ slice_index_or (f ++ g ∷ []) j d → (j < length f) ⊎ (length f ≤ j) → ⊥
     by e (inl a) =
@@ -220,7 +217,7 @@ reaching_more gens g n m m' m'' f f' f'' s k i h at r p a =
     record {
       closing = added_closing gens k m' m'' f' f'' i.closing a sp;
       grows = grows_trans m m' m'' f f' f'' i.grows gr;
-      done = λ q d b. last_or_before q d b gr (added_reached k m' m'' f' f'' i.closing.sized a) (nat_split q n);
+      done = λ q d b. last_or_before q d b gr (added_reached k m' m'' f' f'' i.closing.sized a) (cases_lt q n);
     }
   where
     last_or_before : (q : ℕ) (d : Operation) → q < n + 1 → Grows m' f' m'' f'' → Reached m'' k → (q < n) ⊎ (n ≤ q) →
@@ -269,7 +266,7 @@ pub closed_more : (gens : List Operation) (n : ℕ) (m m' : List Bool) (f f' : L
 closed_more gens n m m' f f' g c h at cl gr dn = record {
   closing = cl;
   one = reached_more m m' identity gr.marks c.one;
-  done = λ j d l. by j d l (nat_split j n);
+  done = λ j d l. by j d l (cases_lt j n);
   within = let a = gr.longer in omega arith;
 }
   where

@@ -1,9 +1,18 @@
 -- The span of framed generators is a group.
+--   common_product    two operations of one frame have a product
+--   kept_listing    the listing of a span
+--   span_none    the span of no generators
+--   mark_tells    the mark tells membership
+--   only_identity    the listing of the span of no generators
+--   Joined, joined_frame, each_map, joined_span    one operation more
+--   outside_at, inside_more, inside_all, fits_frame, joined_told, refused, accepted    the least place outside
 use Rattle.std.proofs.Common.{◌≡◌, ℕ, ◌+◌, ◌<◌, ◌≤◌, Bool, true, false, List, [], ◌∷◌, ◌++◌}
 use Rattle.std.proofs.Common.{length, refl, ap, sym, ◌∙◌, arith, subst, lit<, ◌⊎◌, inl, inr}
 use Rattle.std.proofs.lemmas.List.{get_or_default}
 use Rattle.std.specs.Prelude.{slice_index_or, Some, Contains, ◌↔◌, IsTrue, IfOk, Result, Ok, Err}
 use Rattle.std.proofs.lemmas.List.Elements.{Contains-append_left, Contains-push, Contains-push_cases}
+use Rattle.std.proofs.lemmas.Bool.{cases_lt, false≢true}
+use Rattle.list_laws.proofs.Lists.{none_held}
 use Rattle.tensor_defs.specs.Operation.{Operation, IsProduct, identity}
 use Rattle.tensor_defs.specs.Lists.{Each, IsListing}
 use Rattle.tensor_defs.specs.OperationOrder.{comes_before}
@@ -17,7 +26,7 @@ use Rattle.op_matrix.proofs.Listed.{plain_product, hex_product, plain_one, hex_o
 use Rattle.magnetic_groups.specs.Marks.{mark_at, IsClosed, Reached, marked_below}
 use Rattle.magnetic_groups.proofs.Inverses.{closed_inverse}
 use Rattle.magnetic_groups.specs.Sets.{HaveFrame, FitsFrame, Spanned, IsKept, IsFirstOutside, IsWithin}
-use Rattle.magnetic_groups.proofs.Reaching.{nat_split, spanned_times, spanned_one, spanned_framed, spanned_plain}
+use Rattle.magnetic_groups.proofs.Reaching.{spanned_times, spanned_one, spanned_framed, spanned_plain}
 use Rattle.magnetic_groups.proofs.Reaching.{spanned_hex, span_frame, reached_spanned, reached_all}
 use Rattle.magnetic_groups.proofs.Marked.{marked_first, contains_told, contains_of, marked_rising}
 
@@ -111,12 +120,9 @@ kept_listing gens items m i = record { rising = i.group.rising; members = i.span
 pub span_none : (k : Operation) → Spanned [] k ↔ (k ≡ identity)
 span_none k = (told k, λ e. ([], tt, e))
   where
-    nothing : (s : Operation) → Contains [] s → ⊥
-    nothing s c = let h = c.1 in omega arith
-
     told : (k : Operation) → Spanned [] k → k ≡ identity
     told k ([], e, p) = p
-    told k (s ∷ gs, e, p) = absurd (nothing s e.0)
+    told k (s ∷ gs, e, p) = absurd (none_held s e.0)
 
 -- the mark tells membership
 pub mark_tells : (gens items : List Operation) (m : List Bool) (g : Operation) (k : ℕ) → IsKept gens items m →
@@ -141,10 +147,7 @@ only_identity gens e xs l = record {
 }
 
 pub no_frame : (gens : List Operation) → gens ≡ [] → HaveFrame gens
-no_frame gens e = inl (λ g c. absurd (nothing g (subst (λ x. Contains x g) e c)))
-  where
-    nothing : (s : Operation) → Contains [] s → ⊥
-    nothing s c = let h = c.1 in omega arith
+no_frame gens e = inl (λ g c. absurd (none_held g (subst (λ x. Contains x g) e c)))
 
 pub if_ok_map : {X E : Type 0} (r : Result X E) (P Q : X → Type 0) → ((x : X) → P x → Q x) → IfOk r P → IfOk r Q
 if_ok_map (Ok x) P Q f h = f x h
@@ -206,17 +209,14 @@ pub outside_at : (xs ys zs : List Operation) (n : ℕ) (g : Operation) (b : Bool
     ((j : ℕ) (d : Operation) → j < n → Contains ys (slice_index_or xs j d)) → IsFirstOutside zs ys n
 outside_at xs ys zs n g b e h at t f m = subst (λ x. IsFirstOutside x ys n) e (record {
   below = h;
-  outside = λ d c. false_true (sym f ∙ t.1 (subst (Contains ys) (get_or_default xs n d g h ∙ sym at) c));
+  outside = λ d c. false≢true (sym f ∙ t.1 (subst (Contains ys) (get_or_default xs n d g h ∙ sym at) c));
   earlier = m;
 })
-  where
-    false_true : false ≡ true → ⊥
-    false_true e = cc
 
 pub inside_more : (xs ys : List Operation) (n : ℕ) (g : Operation) → n < length xs → g ≡ slice_index_or xs n g →
     Contains ys g → ((j : ℕ) (d : Operation) → j < n → Contains ys (slice_index_or xs j d)) → (j : ℕ) (d : Operation) →
     j < n + 1 → Contains ys (slice_index_or xs j d)
-inside_more xs ys n g h at c m j d l = by (nat_split j n)
+inside_more xs ys n g h at c m j d l = by (cases_lt j n)
   where
     by : (j < n) ⊎ (n ≤ j) → Contains ys (slice_index_or xs j d)
     by (inl a) = m j d a
@@ -256,7 +256,4 @@ refused xs gens g r b l e t f = (l.members r).0 (subst (Contains xs) e (t.0 f))
 
 pub accepted : (xs gens : List Operation) (g r : Operation) (b : Bool) → IsListing comes_before (Spanned gens) xs →
     g ≡ r → (IsTrue b ↔ Contains xs g) → b ≡ false → ¬ Spanned gens r
-accepted xs gens g r b l e t f s = false_true (sym f ∙ t.1 (subst (Contains xs) (sym e) ((l.members r).1 s)))
-  where
-    false_true : false ≡ true → ⊥
-    false_true e = cc
+accepted xs gens g r b l e t f s = false≢true (sym f ∙ t.1 (subst (Contains xs) (sym e) ((l.members r).1 s)))

@@ -1,9 +1,17 @@
 -- The group of each symbol is framed: its operators are all plain, or all are hexagonal and a power of the first is the
 -- threefold rotation about z without time reversal.
-use Rattle.std.proofs.Common.{◌≡◌, ℕ, ◌/◌, ◌%◌, Bool, true, false, List, [], ◌∷◌, ◌++◌, refl}
+--   passes, each_operator, operators_pass    a test of each operator, primed or not
+--   grey_tail, tail_is, reversal_plain    time reversal
+--   SymbolFrame, symbol_frame, generators_framed, group_framed    the generators of a symbol
+--   built, built_framed, built_refused, built_accepted    what the group built for a symbol is
+use Rattle.std.proofs.Common.{[], ◌≡◌, ℕ, ◌/◌, ◌%◌, Bool, true, false, List, ◌∷◌, ◌++◌, refl}
 use Rattle.std.proofs.Common.{sym, ◌∙◌, arith, subst, ◌⊎◌, inl, inr}
 use Rattle.std.specs.Prelude.{◌==◌, nat_lt, Option, Some, None, Contains, IsTrue, ◌↔◌, if◌then◌else◌}
 use Rattle.std.proofs.lemmas.List.Elements.{Contains-append_left, Contains-append_cases, Contains-push_cases}
+use Rattle.std.proofs.lemmas.Bool.{ltb-true, false≢true}
+use Rattle.list_laws.proofs.Lists.{none_held}
+use Rattle.list_laws.proofs.Below.{all_below, below_told}
+use Rattle.list_laws.proofs.Tests.{either_told, implied, both}
 use mathlib.Core.Bool.{xor}
 use Rattle.tensor_defs.specs.declared.OpKind.{OpKind}
 use Rattle.tensor_defs.specs.declared.Direction.{Direction}
@@ -18,12 +26,11 @@ use Rattle.tensor_defs.specs.Frames.{IsPlain, IsHexagonal, AllOf, SameMatrix, Is
 use Rattle.tensor_defs.specs.OperationOrder.{same_entry, comes_before}
 use Rattle.tensor_laws.specs.Laws.{three_z}
 use Rattle.tensor_laws.proofs.Products.{product_unique, product_test, product_tested}
-use Rattle.op_matrix.specs.Tests.{all_below, below_told, both}
 use Rattle.op_matrix.specs.Table.{operation_at, matrix_place, same_row, same_matrix}
 use Rattle.op_matrix.specs.View.{hex_frame}
-use Rattle.op_matrix.proofs.Frames.{also, either, either_told, three_told, same_entry_true, plain_test, plain_told}
+use Rattle.op_matrix.proofs.Frames.{also, either, three_told, same_entry_true, plain_test, plain_told}
 use Rattle.op_matrix.proofs.Products.{product_code, frame_code}
-use Rattle.op_matrix.proofs.Hexagonal.{implies, implied, hex_told, nat_lt_means}
+use Rattle.op_matrix.proofs.Hexagonal.{implies, hex_told}
 use Rattle.magnetic_groups.specs.Sets.{In, HaveFrame, Spanned}
 use Rattle.magnetic_groups.proofs.Reaching.{spanned_times, spanned_plain, spanned_hex}
 use Rattle.magnetic_groups.proofs.Spans.{span_product, span_member}
@@ -70,7 +77,7 @@ hex_tested g e =
     three_told (nat_lt (matrix_place g) 64) (hex_frame (frame_code (matrix_place g)))
     (same_matrix (table_matrix g) g) e in
     same_hexagonal (table_matrix g) g (same_matrix_at (table_matrix g) g t.2)
-    (hex_told (matrix_place g) false (nat_lt_means (matrix_place g) 64 t.0) t.1)
+    (hex_told (matrix_place g) false (ltb-true (matrix_place g) 64 t.0) t.1)
 
 -- ---- a test of each operator, primed or not
 abbrev pub passes : (Operation → Bool) → Option Operation → Bool
@@ -83,9 +90,6 @@ each_operator p s (o ∷ os) =
     also (passes p (operation_of o.kind (turned_to s o.direction) false))
     (also (passes p (operation_of o.kind (turned_to s o.direction) true)) (each_operator p s os))
 
-nothing : (g : Operation) → Contains [] g → ⊥
-nothing g c = let h = c.1 in omega arith
-
 either_mark : (p : Option Operation → Bool) (k : OpKind) (d : Direction) (b : Bool) →
     p (operation_of k d false) ≡ true → p (operation_of k d true) ≡ true → p (operation_of k d b) ≡ true
 either_mark p k d true e f = f
@@ -94,13 +98,13 @@ either_mark p k d false e f = e
 listed_pass : (p : Operation → Bool) (o : Option Operation) (g : Operation) → passes p o ≡ true →
     Contains (listed o) g →
     p g ≡ true
-listed_pass p None g e c = absurd (nothing g c)
+listed_pass p None g e c = absurd (none_held g c)
 listed_pass p (Some a) g e c =
-    elim (Contains-push_cases [] a g c) [ inl h ↦ absurd (nothing g h) | inr q ↦ subst (λ x. p x ≡ true) q e ]
+    elim (Contains-push_cases [] a g c) [ inl h ↦ absurd (none_held g h) | inr q ↦ subst (λ x. p x ≡ true) q e ]
 
 pub operators_pass : (p : Operation → Bool) (s : Setting) (os : List Operator) (primes : ℕ) (g : Operation) →
     each_operator p s os ≡ true → Contains (operations_of s primes os) g → p g ≡ true
-operators_pass p s [] primes g e c = absurd (nothing g c)
+operators_pass p s [] primes g e c = absurd (none_held g c)
 operators_pass p s (o ∷ os) primes g e c =
     let t : (_ ≡ true) × (_ ≡ true) × (_ ≡ true) =
     three_told (passes p (operation_of o.kind (turned_to s o.direction) false))
@@ -182,8 +186,8 @@ abbrev pub grey_tail : Bool → List Operation
 grey_tail b = if b then reversal ∷ [] else []
 
 pub tail_is : (b : Bool) (g : Operation) → Contains (grey_tail b) g → reversal ≡ g
-tail_is true g c = elim (Contains-push_cases [] reversal g c) [ inl h ↦ absurd (nothing g h) | inr q ↦ q ]
-tail_is false g c = absurd (nothing g c)
+tail_is true g c = elim (Contains-push_cases [] reversal g c) [ inl h ↦ absurd (none_held g h) | inr q ↦ q ]
+tail_is false g c = absurd (none_held g c)
 
 pub reversal_plain : IsPlain reversal
 reversal_plain = plain_told reversal refl
@@ -268,16 +272,13 @@ built_framed t xs i l = by (group_framed t i)
     by (inl h) = inl (λ g c. h g ((l.members g).0 c))
     by (inr h) = inr ((λ g c. h.0 g ((l.members g).0 c)), λ g e. (l.members g).1 (h.1 g e))
 
-false_true : false ≡ true → ⊥
-false_true e = cc
-
 pub built_refused : (t : GroupSymbol) (xs : List Operation) (r : Operation) (grey b : Bool) →
     IsListing comes_before (InGroup t) xs → r ≡ reversal → grey ≡ t.grey → (IsTrue b ↔ Contains xs r) →
     grey ≡ false → b ≡ true → ¬ IsAccepted t
-built_refused t xs r grey b l e f h p q (inl a) = false_true (sym p ∙ f ∙ a)
+built_refused t xs r grey b l e f h p q (inl a) = false≢true (sym p ∙ f ∙ a)
 built_refused t xs r grey b l e f h p q (inr a) = a ((l.members reversal).0 (subst (Contains xs) e (h.0 q)))
 
 pub built_accepted : (t : GroupSymbol) (xs : List Operation) (r : Operation) (b : Bool) →
     IsListing comes_before (InGroup t) xs → r ≡ reversal → (IsTrue b ↔ Contains xs r) → b ≡ false → IsAccepted t
 built_accepted t xs r b l e h q =
-    inr (λ s. false_true (sym q ∙ h.1 (subst (Contains xs) (sym e) ((l.members reversal).1 s))))
+    inr (λ s. false≢true (sym q ∙ h.1 (subst (Contains xs) (sym e) ((l.members reversal).1 s))))

@@ -1,9 +1,12 @@
 -- Going through the elements of a group, and taking those that aren't products of the ones taken before.
+--   takes_past, takes_more, IsTaking, taking_none, taking_past, taking_more ..    one operation more
 use Rattle.std.proofs.Common.{◌≡◌, ℕ, ◌+◌, ◌<◌, ◌≤◌, Bool, true, false, List, [], ◌∷◌, ◌++◌}
 use Rattle.std.proofs.Common.{length, ap, sym, ◌∙◌, arith, subst, ◌⊎◌, inl, inr, take}
 use Rattle.std.specs.Prelude.{slice_index_or, Contains, ◌↔◌}
 use Rattle.std.proofs.lemmas.List.{take_more, take_all, get_or_default}
 use Rattle.std.proofs.lemmas.List.Elements.{Contains-push, Contains-push_cases, Contains-get_or}
+use Rattle.std.proofs.lemmas.Bool.{cases_lt}
+use Rattle.list_laws.proofs.Lists.{none_held}
 use Rattle.tensor_defs.specs.Operation.{Operation}
 use Rattle.tensor_laws.proofs.Products.{generated_within}
 use Rattle.op_matrix.specs.Table.{place}
@@ -12,7 +15,7 @@ use Rattle.magnetic_groups.specs.Marks.{mark_at, marked_below, Reached, Grows}
 use Rattle.magnetic_groups.specs.Sets.{HaveFrame, Spanned, IsGroup, IsKept}
 use Rattle.magnetic_groups.specs.Greedy.{IsSpan, TakesFrom, IsGreedy}
 use Rattle.magnetic_groups.proofs.Members.{member_framed}
-use Rattle.magnetic_groups.proofs.Reaching.{nat_split, reached_spanned, reached_more, reached_all, unreached}
+use Rattle.magnetic_groups.proofs.Reaching.{reached_spanned, reached_more, reached_all, unreached}
 use Rattle.magnetic_groups.proofs.Spans.{span_member}
 
 -- ---- one operation more
@@ -37,12 +40,9 @@ pub taking_none : (items gens f : List Operation) (m : List Bool) → gens ≡ [
 taking_none items gens f m e i = record {
   span = i;
   takes = e;
-  inside = λ g c. absurd (nothing g (subst (λ x. Contains x g) e c));
+  inside = λ g c. absurd (none_held g (subst (λ x. Contains x g) e c));
   held = λ j d h. absurd (omega arith);
 }
-  where
-    nothing : (g : Operation) → Contains [] g → ⊥
-    nothing g c = let h = c.1 in omega arith
 
 element_at : (items : List Operation) (n : ℕ) (g : Operation) → n < length items → g ≡ slice_index_or items n g → Contains items g
 element_at items n g h e = subst (Contains items) (sym e) (Contains-get_or items n g h)
@@ -51,7 +51,7 @@ next_taken : (items : List Operation) (n : ℕ) (g : Operation) → n < length i
 next_taken items n g h e = take_more items n g h ∙ ap (λ x. take n items ++ x ∷ []) (sym e)
 
 held_more : (items : List Operation) (m m' : List Bool) (n : ℕ) (g : Operation) → n < length items → g ≡ slice_index_or items n g → ((k : ℕ) → mark_at m k ≡ true → mark_at m' k ≡ true) → ((j : ℕ) (d : Operation) → j < n → Reached m (slice_index_or items j d)) → Reached m' g → (j : ℕ) (d : Operation) → j < n + 1 → Reached m' (slice_index_or items j d)
-held_more items m m' n g h e w b r j d l = by (nat_split j n)
+held_more items m m' n g h e w b r j d l = by (cases_lt j n)
   where
     by : (j < n) ⊎ (n ≤ j) → Reached m' (slice_index_or items j d)
     by (inl a) = reached_more m m' (slice_index_or items j d) w (b j d a)

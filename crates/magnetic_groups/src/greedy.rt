@@ -177,6 +177,7 @@ impl Group {
         ensures taken { IsGreedy self.now result }
         ensures spanned { (k : Operation) → Contains self.now k ↔ Spanned result k }
     {
+        // a field that is read brings the invariant into the proof
         let _marks = &self.marks;
         greedy_of(&self.elements)
     }

@@ -1,17 +1,22 @@
 -- Determinants, inverses, entries and the order, by computing.
-use Rattle.std.proofs.Common.{◌≡◌, ◌≢◌, ℕ, ◌+◌, ◌*◌, ◌/◌, ◌%◌, ◌<◌, Bool, true, false, [], refl}
+--   negative_code, det_at    the determinant
+--   inverse_code, inverse_below, inverse_at    inverses
+--   entry_told    entries
+--   bit, before_at, half_below, before_places, place_of_nth, nth_at ..    the order
+use Rattle.std.proofs.Common.{[], ◌≡◌, ◌≢◌, ℕ, ◌+◌, ◌*◌, ◌/◌, ◌%◌, ◌<◌, Bool, true, false, refl}
 use Rattle.std.proofs.Common.{ap, sym, ◌∙◌, arith, subst, lit<, cond}
 use Rattle.std.specs.Prelude.{nat_eq, nat_lt, slice_index}
 use Rattle.std.specs.List.{slice_index_or}
 use mathlib.Core.Bool.{xor}
 use lib.IntN.{ℤ, pos, negsuc, ◌*ℤ◌}
 use Rattle.std.proofs.lemmas.Bool.Decides.{nat_tests}
+use Rattle.list_laws.proofs.Below.{all_below, below_told, below_told_2}
+use Rattle.list_laws.proofs.Tests.{same_bool, same_bool_true, xor_self, both}
 use Rattle.tensor_defs.specs.Number.{Triple, add_triple, mul_triple, number_of, same_numbers, add, mul}
 use Rattle.tensor_defs.specs.Number.{whole, half_of}
 use Rattle.tensor_defs.specs.Operation.{Axis, x1, x2, x3, Operation, entry, value, determinant, IsProduct, identity}
 use Rattle.tensor_defs.specs.OperationOrder.{same_int, same_entry, comes_before}
-use Rattle.tensor_laws.proofs.Products.{product_test, product_tested}
-use Rattle.op_matrix.specs.Tests.{all_below, below_told, below_told_2, both}
+use Rattle.tensor_laws.proofs.Products.{product_test, product_tested, same_int_true}
 use Rattle.op_matrix.specs.Table.{operation_at, nth_operation, place}
 use Rattle.op_matrix.specs.Places.{place_at, primed_at}
 use Rattle.op_matrix.specs.View.{entry_of, axis}
@@ -19,8 +24,7 @@ use Rattle.op_matrix.specs.declared.tables.TheConstants.{ENTRIES, INVERSES, NEGA
 use Rattle.op_matrix.specs.declared.entry.Entry as code
 use Rattle.op_matrix.specs.declared.entry.Entry.TheVariants.{One}
 use Rattle.op_matrix.proofs.Marks.{product_marked}
-use Rattle.op_matrix.proofs.Frames.{same_int_true, same_entry_true, also}
-use Rattle.op_matrix.proofs.Hexagonal.{same_bool, same_bool_true}
+use Rattle.op_matrix.proofs.Frames.{same_entry_true, also}
 
 -- ---- the determinant
 abbrev triple_at : Operation → Axis → Axis → Triple
@@ -104,11 +108,6 @@ inverse_below n h = means (inverse_code n) (inverts n h).0
     means : (a : ℕ) → nat_lt a 64 ≡ true → a < 64
     means a e = grind (arith, nat_tests)
 
-no_mark : (p : Bool) → false ≡ xor p p
-unfolding xor
-no_mark true = refl
-no_mark false = refl
-
 identity_at : operation_at 0 false ≡ identity
 unfolding operation_at
 identity_at = refl
@@ -120,9 +119,9 @@ inverse_at n k p g h e f =
     (operation_at 0 false)) (product_test (operation_at (inverse_code n) false) (operation_at n false)
     (operation_at 0 false)) (inverts n h).1 in
     let r : IsProduct (operation_at n p) (operation_at (inverse_code n) p) (operation_at 0 false) =
-    product_marked n (inverse_code n) 0 p p false (product_tested _ _ _ t.0) (no_mark p) in
+    product_marked n (inverse_code n) 0 p p false (product_tested _ _ _ t.0) (xor_self p) in
     let l : IsProduct (operation_at (inverse_code n) p) (operation_at n p) (operation_at 0 false) =
-    product_marked (inverse_code n) n 0 p p false (product_tested _ _ _ t.1) (no_mark p) in (
+    product_marked (inverse_code n) n 0 p p false (product_tested _ _ _ t.1) (xor_self p) in (
       subst (λ x. IsProduct x (operation_at k p) identity) f (subst
           (λ x. IsProduct (operation_at n p) (operation_at x p) identity) (sym e)
           (subst (IsProduct (operation_at n p) (operation_at (inverse_code n) p)) identity_at r)),
@@ -176,7 +175,7 @@ pub before_at : (n m : ℕ) (p q : Bool) → n < 64 → m < 64 → comes_before 
     (2 * n + bit p) (2 * m + bit q)
 before_at n m p q h k = same_bool_true _ _ (below_told_2 64 64 (order_right p q) (order_all p q) n m h k)
 
-half_below : (k : ℕ) → k < 128 → k / 2 < 64
+pub half_below : (k : ℕ) → k < 128 → k / 2 < 64
 half_below k h = omega arith
 
 put_together : (k : ℕ) (b : Bool) → nat_eq (k % 2) 1 ≡ b → 2 * (k / 2) + bit b ≡ k

@@ -1,28 +1,23 @@
 -- Plain, diagonal and hexagonal, by computing.
-use Rattle.std.proofs.Common.{◌≡◌, ◌≢◌, ℕ, Bool, true, false, refl, ap, sym}
-use Rattle.std.proofs.Common.{arith, subst, cond, ◌⊎◌, inl, inr}
-use Rattle.std.specs.Prelude.{nat_eq}
-use Rattle.std.proofs.lemmas.Bool.Decides.{nat_tests}
+--   same_entry_refl, same_entry_of, same_entry_true    the test of sameness
+--   either, also, three, three_told    tests of entries
+--   plain_test, plain_of, plain_told    plain
+--   diagonal_test, x1_x2, x1_x3, x2_x3, diagonal_of, diagonal_told    diagonal
+use Rattle.std.proofs.Common.{◌≡◌, ◌≢◌, Bool, true, false, refl, ap, sym}
+use Rattle.std.proofs.Common.{subst, cond, ◌⊎◌, inl, inr}
+use Rattle.std.proofs.lemmas.Bool.{eq-eqb, true≢false}
+use Rattle.list_laws.proofs.Tests.{either_left, either_right, either_told, both_of, both}
+use Rattle.tensor_laws.proofs.Products.{same_int_true}
 use lib.IntN.{ℤ, pos, negsuc}
 use Rattle.tensor_defs.specs.Operation.{Axis, x1, x2, x3, Entry, Operation, entry, one, nought}
 use Rattle.tensor_defs.specs.Operation.{minus_one}
 use Rattle.tensor_defs.specs.OperationOrder.{same_int, same_entry}
 use Rattle.tensor_defs.specs.Frames.{IsUnit, OneUnit, IsPlain, IsDiagonal}
-use Rattle.op_matrix.specs.Tests.{both, nat_eq_means}
 
 -- ---- the test of sameness
-nat_eq_refl : (a : ℕ) → nat_eq a a ≡ true
-nat_eq_refl a = grind (arith, nat_tests)
-
 same_int_refl : (a : ℤ) → same_int a a ≡ true
-same_int_refl (pos a) = nat_eq_refl a
-same_int_refl (negsuc a) = nat_eq_refl a
-
-pub same_int_true : (a b : ℤ) → same_int a b ≡ true → a ≡ b
-same_int_true (pos a) (pos b) e = ap pos (nat_eq_means a b e)
-same_int_true (pos a) (negsuc b) e = cc
-same_int_true (negsuc a) (pos b) e = cc
-same_int_true (negsuc a) (negsuc b) e = ap negsuc (nat_eq_means a b e)
+same_int_refl (pos a) = eq-eqb a a refl
+same_int_refl (negsuc a) = eq-eqb a a refl
 
 pub same_entry_refl : (a : Entry) → same_entry a a ≡ true
 same_entry_refl a = rw (same_int_refl a.rational) (same_int_refl a.root)
@@ -41,20 +36,6 @@ either a b = cond a true b
 
 abbrev pub also : Bool → Bool → Bool
 also a b = cond a b false
-
-either_left : (a b : Bool) → a ≡ true → either a b ≡ true
-either_left a b e = rw e refl
-
-either_right : (a b : Bool) → b ≡ true → either a b ≡ true
-either_right true b e = refl
-either_right false b e = e
-
-pub either_told : (a b : Bool) → either a b ≡ true → (a ≡ true) ⊎ (b ≡ true)
-either_told true b e = inl refl
-either_told false b e = inr e
-
-pub also_of : (a b : Bool) → a ≡ true → b ≡ true → also a b ≡ true
-also_of a b e f = rw e f
 
 abbrev unit_test : Entry → Bool
 unit_test e = either (same_entry e one) (same_entry e minus_one)
@@ -76,7 +57,7 @@ one_unit_test a b c = either (also (unit_test a) (also (zero_test b) (zero_test 
     (also (zero_test a) (also (zero_test b) (unit_test c))))
 
 pub three : (a b c : Bool) → a ≡ true → b ≡ true → c ≡ true → also a (also b c) ≡ true
-three a b c p q r = also_of a (also b c) p (also_of b c q r)
+three a b c p q r = both_of a (also b c) p (both_of b c q r)
 
 pub three_told : (a b c : Bool) → also a (also b c) ≡ true → (a ≡ true) × (b ≡ true) × (c ≡ true)
 three_told a b c e = let p : (a ≡ true) × (also b c ≡ true) = both a (also b c) e in let q : (b ≡ true) × (c ≡ true) =
@@ -125,7 +106,7 @@ abbrev pub plain_test : Operation → Bool
 plain_test g = also (each_axis (row_unit g)) (each_axis (column_unit g))
 
 pub plain_of : (g : Operation) → IsPlain g → plain_test g ≡ true
-plain_of g h = also_of (each_axis (row_unit g)) _ (each_axis_of (row_unit g)
+plain_of g h = both_of (each_axis (row_unit g)) _ (each_axis_of (row_unit g)
     (λ i. one_unit_of (entry g i x1) (entry g i x2) (entry g i x3) (h.rows i)))
     (each_axis_of (column_unit g) (λ j. one_unit_of (entry g x1 j) (entry g x2 j) (entry g x3 j) (h.columns j)))
 
@@ -153,17 +134,14 @@ is_x2 x1 = false
 is_x2 x2 = true
 is_x2 x3 = false
 
-true_false : true ≡ false → ⊥
-true_false e = cc
-
 pub x1_x2 : x1 ≢ x2
-x1_x2 e = true_false (ap is_x1 e)
+x1_x2 e = true≢false (ap is_x1 e)
 
 pub x1_x3 : x1 ≢ x3
-x1_x3 e = true_false (ap is_x1 e)
+x1_x3 e = true≢false (ap is_x1 e)
 
 pub x2_x3 : x2 ≢ x3
-x2_x3 e = true_false (ap is_x2 e)
+x2_x3 e = true≢false (ap is_x2 e)
 
 on_it : (e : Entry) (i : Axis) → ((i ≡ i) × IsUnit e) ⊎ ((i ≢ i) × (e ≡ nought)) → unit_test e ≡ true
 on_it e i (inl h) = unit_of e h.1

@@ -1,9 +1,17 @@
 -- The hexagonal matrices are those of the table's frame.
-use Rattle.std.proofs.Common.{◌≡◌, ◌≢◌, ℕ, ◌<◌, Bool, true, false, List, [], ◌∷◌, refl, ap, sym}
-use Rattle.std.proofs.Common.{◌∙◌, arith, subst, lit<, cond, inl, inr}
+--   Listed    an operation of the table with a hexagonal matrix
+--   zero_hex, identity_at, listed_product, listed_unique, identity_listed, turns_listed    powers of 6z
+--   diagonal_listed    diagonal ones
+--   place_same, hex_of    the place is told by the entries
+--   hex_told    each hexagonal frame's matrix is a power of 6z times a diagonal one
+--   plain_at_of, plain_at_told, diagonal_at_of, diagonal_at_told, common_of    plain and diagonal ones
+use Rattle.std.proofs.Common.{[], ◌≡◌, ◌≢◌, ℕ, ◌<◌, Bool, true, false, List, ◌∷◌, refl, ap, sym}
+use Rattle.std.proofs.Common.{◌∙◌, subst, lit<, cond, inl, inr}
 use Rattle.std.specs.Prelude.{nat_eq, nat_lt, Some}
 use mathlib.Core.Bool.{xor}
-use Rattle.std.proofs.lemmas.Bool.Decides.{nat_tests}
+use Rattle.std.proofs.lemmas.Bool.{ltb-true, eqb-true}
+use Rattle.list_laws.proofs.Below.{all_below, below_told}
+use Rattle.list_laws.proofs.Tests.{either_told, both_of, same_bool, same_bool_true, implied, both}
 use Rattle.tensor_defs.specs.Operation.{Axis, x1, x2, x3, Entry, Operation, entry, IsProduct, identity}
 use Rattle.tensor_defs.specs.Operation.{matrix, nought}
 use Rattle.tensor_defs.specs.declared.OpKind.TheVariants.{Six}
@@ -12,13 +20,12 @@ use Rattle.tensor_defs.specs.Symbols.{operation_of}
 use Rattle.tensor_defs.specs.Group.{Generated}
 use Rattle.tensor_defs.specs.Frames.{IsThe, IsUnit, IsPlain, IsDiagonal, IsHexagonal, SameMatrix, HaveCommonFrame}
 use Rattle.tensor_laws.proofs.Products.{product_unique, generated_within, product_tested}
-use Rattle.op_matrix.specs.Tests.{all_below, below_told, both, nat_eq_means}
 use Rattle.op_matrix.specs.Table.{operation_at, matrix_place}
 use Rattle.op_matrix.specs.Places.{place_at}
 use Rattle.op_matrix.specs.declared.entry.Frame.{Frame}
 use Rattle.op_matrix.specs.declared.entry.Frame.TheVariants.{Plain, Hexagonal, Both}
 use Rattle.op_matrix.specs.View.{hex_frame, plain_frame, both_frame}
-use Rattle.op_matrix.proofs.Frames.{x1_x2, x1_x3, x2_x3, also, either, either_told, plain_test, plain_of, plain_told}
+use Rattle.op_matrix.proofs.Frames.{x1_x2, x1_x3, x2_x3, also, either, plain_test, plain_of, plain_told}
 use Rattle.op_matrix.proofs.Frames.{diagonal_test, diagonal_of, diagonal_told}
 use Rattle.op_matrix.proofs.Products.{product_code, frame_code, common, product_at, product_code_below}
 
@@ -39,10 +46,6 @@ plain_common Plain Plain h k = refl
 abbrev pub implies : Bool → Bool → Bool
 implies a b = cond a b true
 
-pub implied : (a b : Bool) → implies a b ≡ true → a ≡ true → b ≡ true
-implied true b e f = e
-implied false b e f = cc
-
 -- products keep the frame
 kept : (Frame → Bool) → Bool
 unfolding product_code frame_code
@@ -57,16 +60,13 @@ plain_kept : kept plain_frame ≡ true
 unfolding kept product_code frame_code
 plain_kept = refl
 
-two_true : (a b : Bool) → a ≡ true → b ≡ true → also a b ≡ true
-two_true a b e f = rw e f
-
 kept_at : (p : Frame → Bool) → kept p ≡ true → (n m : ℕ) → n < 64 → m < 64 → p (frame_code n) ≡ true →
     p (frame_code m) ≡ true → p (frame_code (product_code n m)) ≡ true
 unfolding kept
 kept_at p e n m h k a b = implied (also (p (frame_code n)) (p (frame_code m))) (p (frame_code (product_code n m)))
     (below_told 64 (λ m. implies (also (p (frame_code n)) (p (frame_code m))) (p (frame_code (product_code n m))))
     (below_told 64 (λ n. all_below 64 (λ m. implies (also (p (frame_code n)) (p (frame_code m)))
-    (p (frame_code (product_code n m))))) e n h) m k) (two_true _ _ a b)
+    (p (frame_code (product_code n m))))) e n h) m k) (both_of _ _ a b)
 
 pub hex_kept_at : (n m : ℕ) → n < 64 → m < 64 → hex_frame (frame_code n) ≡ true → hex_frame (frame_code m) ≡ true →
     hex_frame (frame_code (product_code n m)) ≡ true
@@ -92,11 +92,11 @@ six_hex : hex_frame (frame_code 12) ≡ true
 unfolding frame_code
 six_hex = refl
 
-one_hex : hex_frame (frame_code 0) ≡ true
+pub zero_hex : hex_frame (frame_code 0) ≡ true
 unfolding frame_code
-one_hex = refl
+zero_hex = refl
 
-identity_at : identity ≡ operation_at 0 false
+pub identity_at : identity ≡ operation_at 0 false
 unfolding operation_at
 identity_at = refl
 
@@ -124,7 +124,7 @@ listed_unique g h k a b p = let m : (m : Operation) × Listed m × IsProduct g h
 
 pub identity_listed : Listed identity
 unfolding operation_at
-identity_listed = (0, lit< tt, one_hex, refl)
+identity_listed = (0, lit< tt, zero_hex, refl)
 
 six_listed : (s : Operation) → IsThe (operation_of Six Z false) s → Listed s
 six_listed s e = (12, lit< tt, six_hex, primed_of s 12 false (six_is s e))
@@ -223,9 +223,6 @@ same_at n m p q e x1 j = ap (λ k. entry (operation_at k p) x1 j) e
 same_at n m p q e x2 j = ap (λ k. entry (operation_at k p) x2 j) e
 same_at n m p q e x3 j = ap (λ k. entry (operation_at k p) x3 j) e
 
-pub nat_lt_means : (a b : ℕ) → nat_lt a b ≡ true → a < b
-nat_lt_means a b e = grind (arith, nat_tests)
-
 -- a turn by t, a power of 6z
 abbrev IsTurn : ℕ → Type 0
 IsTurn t = (t < 64) × (hex_frame (frame_code t) ≡ true) × Generated (IsThe (operation_of Six Z false))
@@ -287,10 +284,10 @@ hex_by t n p turn e =
       turn.2,
       diagonal_told
           (operation_at b.0 false) v.0,
-      product_at t b.0 false false false turn.0 (nat_lt_means b.0 64 u.0)
+      product_at t b.0 false false false turn.0 (ltb-true b.0 64 u.0)
           (hex_common (frame_code t) (frame_code b.0) turn.1 w.0) refl,
       same_at (product_code t b.0) n false p
-          (nat_eq_means (product_code t b.0) n w.1),
+          (eqb-true (product_code t b.0) n w.1),
     )
 
 pub hex_told : (n : ℕ) (p : Bool) → n < 64 → hex_frame (frame_code n) ≡ true → IsHexagonal (operation_at n p)
@@ -303,17 +300,6 @@ hex_told n p h f =
     ]
 
 -- ---- plain and diagonal ones
-abbrev pub same_bool : Bool → Bool → Bool
-same_bool true b = b
-same_bool false true = false
-same_bool false false = true
-
-pub same_bool_true : (a b : Bool) → same_bool a b ≡ true → a ≡ b
-same_bool_true true true e = refl
-same_bool_true true false e = cc
-same_bool_true false true e = cc
-same_bool_true false false e = refl
-
 abbrev plain_right : ℕ → Bool
 plain_right n = same_bool (plain_test (operation_at n false)) (plain_frame (frame_code n))
 

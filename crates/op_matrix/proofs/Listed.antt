@@ -1,20 +1,27 @@
 -- Every plain and every hexagonal operation is in the table, so they have products and inverses, which are of their frame.
+--   Coded    in the table, with a frame that passes the test
+--   plain_listed    plain ones
+--   hex_listed    hexagonal ones
+--   plain_product, hex_product, Placed, plain_placed, hex_placed, plain_identity, hex_identity    products
+--   zero_plain, OneTimes, plain_one, hex_one    the identity, and inverses
 use Rattle.std.proofs.Common.{◌≡◌, ℕ, zero, suc, ◌<◌, Bool, true, false, refl, sym}
 use Rattle.std.proofs.Common.{◌∙◌, subst, lit<, inl, inr}
 use Rattle.std.specs.Prelude.{nat_eq, nat_lt}
+use Rattle.std.proofs.lemmas.Bool.{ltb-true, eqb-true}
+use Rattle.list_laws.proofs.Below.{all_below, below_told, below_told_2}
+use Rattle.list_laws.proofs.Tests.{implied, plain_xor, xor_plain, both}
 use mathlib.Core.Bool.{xor}
 use Rattle.tensor_defs.specs.Operation.{x1, x2, x3, Entry, Row, Operation, IsProduct, identity, one}
 use Rattle.tensor_defs.specs.Operation.{nought, minus_one}
 use Rattle.tensor_defs.specs.Frames.{OneUnit, IsPlain, IsHexagonal, SameMatrix}
-use Rattle.op_matrix.specs.Tests.{all_below, below_told, below_told_2, both, nat_eq_means}
 use Rattle.op_matrix.specs.Table.{operation_at, nth_operation, place, matrix_place, same_row, same_matrix}
 use Rattle.op_matrix.specs.View.{hex_frame, plain_frame}
 use Rattle.op_matrix.specs.declared.entry.Frame.{Frame}
 use Rattle.op_matrix.proofs.Frames.{also, three_told, same_entry_true, plain_test, plain_of}
 use Rattle.op_matrix.proofs.Products.{product_code, frame_code, common, product_at, product_code_below}
 use Rattle.op_matrix.proofs.Facts.{nth_at, place_below, the_place}
-use Rattle.op_matrix.proofs.Hexagonal.{Listed, listed_unique, turns_listed, diagonal_listed, implies, implied}
-use Rattle.op_matrix.proofs.Hexagonal.{nat_lt_means, hex_common, plain_common, hex_kept_at, plain_kept_at}
+use Rattle.op_matrix.proofs.Hexagonal.{Listed, listed_unique, turns_listed, diagonal_listed, implies, zero_hex, identity_at}
+use Rattle.op_matrix.proofs.Hexagonal.{hex_common, plain_common, hex_kept_at, plain_kept_at}
 use Rattle.op_matrix.proofs.Hexagonal.{plain_at_told, hex_told}
 
 -- in the table, with a frame that passes the test
@@ -82,7 +89,7 @@ coded_axes a b c p h k l e =
     (plain_of (of_axes a b c p) e) in
     let u : (_ ≡ true) × (_ ≡ true) × (_ ≡ true) = three_told (nat_lt (matrix_place g) 64)
     (plain_frame (frame_code (matrix_place g))) (same_matrix (operation_at (matrix_place g) false) g) t in
-    (matrix_place g, nat_lt_means _ _ u.0, u.1, with_mark g (matrix_place g) p u.2)
+    (matrix_place g, ltb-true _ _ u.0, u.1, with_mark g (matrix_place g) p u.2)
 
 pub plain_listed : (g : Operation) → IsPlain g → Coded plain_frame g
 plain_listed g h =
@@ -169,17 +176,9 @@ one_all : all_below 64 one_right ≡ true
 unfolding product_code
 one_all = refl
 
-zero_plain : plain_frame (frame_code 0) ≡ true
+pub zero_plain : plain_frame (frame_code 0) ≡ true
 unfolding frame_code
 zero_plain = refl
-
-zero_hex : hex_frame (frame_code 0) ≡ true
-unfolding frame_code
-zero_hex = refl
-
-identity_at : identity ≡ operation_at 0 false
-unfolding operation_at
-identity_at = refl
 
 abbrev pub OneTimes : Operation → Type 0
 OneTimes g = IsProduct identity g g × IsProduct g identity g
@@ -192,19 +191,11 @@ one_at n p h a b =
     (below_told 64 one_right one_all n h) in (
       subst (λ x. IsProduct x (operation_at n p) (operation_at n p)) (sym identity_at)
           (subst (λ x. IsProduct (operation_at 0 false) (operation_at n p) (operation_at x p))
-          (nat_eq_means (product_code 0 n) n t.0) (product_at 0 n false p p (lit< tt) h a (left p))),
+          (eqb-true (product_code 0 n) n t.0) (product_at 0 n false p p (lit< tt) h a (plain_xor p))),
       subst (λ x. IsProduct (operation_at n p) x (operation_at n p)) (sym identity_at)
           (subst (λ x. IsProduct (operation_at n p) (operation_at 0 false) (operation_at x p))
-          (nat_eq_means (product_code n 0) n t.1) (product_at n 0 p false p h (lit< tt) b (right p))),
+          (eqb-true (product_code n 0) n t.1) (product_at n 0 p false p h (lit< tt) b (xor_plain p))),
     )
-  where
-    left : (p : Bool) → p ≡ xor false p
-    left true = refl
-    left false = refl
-
-    right : (p : Bool) → p ≡ xor p false
-    right true = refl
-    right false = refl
 
 pub plain_one : (g : Operation) → IsPlain g → OneTimes g
 plain_one g h = let a = plain_listed g h in subst OneTimes (sym a.3)

@@ -1,20 +1,24 @@
 -- The order of operations is that of their places, and frames are closed under products and inverses.
-use Rattle.std.proofs.Common.{◌≡◌, ◌≢◌, ℕ, ◌<◌, Bool, true, false, refl, ap, sym, ◌∙◌, arith, subst, lit<, ◌⊎◌, inl}
+--   before_known, places_rise, rise_before, same_place, identity_framed, order_is_strict_lem    the order
+--   nth_framed, are_listed_lem    the places
+--   frames_are_closed_lem, plain_closed, hex_closed, inverse_plain, inverse_hex    products and inverses
+use Rattle.std.proofs.Common.{◌≡◌, ◌≢◌, ℕ, ◌<◌, Bool, true, false, refl, ap, sym, ◌∙◌, arith, subst, lit<, inl}
 use Rattle.std.proofs.Common.{inr}
 use Rattle.std.specs.Prelude.{nat_lt, IsTrue}
-use Rattle.std.proofs.lemmas.Bool.Decides.{nat_tests}
+use Rattle.std.proofs.lemmas.Bool.{ltb-true, lt-ltb, cases_order}
+use Rattle.list_laws.proofs.Below.{all_below, below_told}
+use Rattle.list_laws.proofs.Tests.{either_told, implied, both}
 use Rattle.tensor_defs.specs.Operation.{Operation, IsProduct, identity}
 use Rattle.tensor_defs.specs.OperationOrder.{comes_before}
 use Rattle.tensor_defs.specs.Frames.{IsPlain, IsHexagonal}
 use Rattle.tensor_laws.proofs.Products.{product_unique}
-use Rattle.op_matrix.specs.Tests.{all_below, below_told, both}
 use Rattle.op_matrix.specs.Table.{operation_at, nth_operation, place, matrix_place}
 use Rattle.op_matrix.specs.View.{hex_frame, plain_frame}
 use Rattle.op_matrix.specs.Laws.{HasFrame, OrderIsStrict, AreListed, FramesAreClosed}
-use Rattle.op_matrix.proofs.Frames.{also, either, either_told}
+use Rattle.op_matrix.proofs.Frames.{also, either}
 use Rattle.op_matrix.proofs.Products.{frame_code}
 use Rattle.op_matrix.proofs.Facts.{before_places, place_of_nth, inverse_code, inverse_below}
-use Rattle.op_matrix.proofs.Hexagonal.{implies, implied, plain_at_of, plain_at_told, hex_of, hex_told}
+use Rattle.op_matrix.proofs.Hexagonal.{implies, plain_at_of, plain_at_told, hex_of, hex_told}
 use Rattle.op_matrix.proofs.Listed.{Placed, plain_placed, hex_placed, plain_product, hex_product}
 
 pub placed : (g : Operation) → HasFrame g → Placed g
@@ -28,25 +32,14 @@ before_known g h a b =
     let q : Placed h = placed h b in
     (λ i. comes_before (p.1 i) (q.1 i)) ∙ before_places (place g) (place h) p.0 q.0
 
-less : (a b : ℕ) → nat_lt a b ≡ true → a < b
-less a b e = grind (arith, nat_tests)
-
-less_true : (a b : ℕ) → a < b → nat_lt a b ≡ true
-less_true a b e = grind (arith, nat_tests)
-
 pub places_rise : (g h : Operation) → HasFrame g → HasFrame h → IsTrue (comes_before g h) → place g < place h
-places_rise g h a b e = less (place g) (place h) (sym (before_known g h a b) ∙ e)
+places_rise g h a b e = ltb-true (place g) (place h) (sym (before_known g h a b) ∙ e)
 
 pub rise_before : (g h : Operation) → HasFrame g → HasFrame h → place g < place h → IsTrue (comes_before g h)
-rise_before g h a b e = before_known g h a b ∙ less_true (place g) (place h) e
+rise_before g h a b e = before_known g h a b ∙ lt-ltb (place g) (place h) e
 
 pub same_place : (g h : Operation) → HasFrame g → HasFrame h → place g ≡ place h → g ≡ h
 same_place g h a b e = (placed g a).1 ∙ ap nth_operation e ∙ sym (placed h b).1
-
-three_ways : (a b : ℕ) (l r : Bool) → nat_lt a b ≡ l → nat_lt b a ≡ r → (a < b) ⊎ (a ≡ b) ⊎ (b < a)
-three_ways a b true r e f = inl (less a b e)
-three_ways a b false true e f = inr (inr (less b a f))
-three_ways a b false false e f = let s : a ≡ b = grind (arith, nat_tests) in inr (inl s)
 
 no_less : (a : ℕ) → a < a → ⊥
 no_less a h = omega arith
@@ -66,11 +59,10 @@ order_is_strict_lem = record {
       let p : place g < place h = places_rise g h a b e in
       let q : place h < place k = places_rise h k b c f in
       rise_before g k a c (chain (place g) (place h) (place k) p q);
-  total = λ g h a b. elim (three_ways (place g) (place h) (nat_lt (place g) (place h)) (nat_lt (place h) (place g)) refl
-      refl) [
-        | inl l ↦ inl (rise_before g h a b l)
-        | inr r ↦ elim r [ inl e ↦ inr (inl (same_place g h a b e)) | inr l ↦ inr (inr (rise_before h g b a l)) ]
-      ];
+  total = λ g h a b. elim (cases_order (place g) (place h)) [
+    | inl e ↦ inr (inl (same_place g h a b e))
+    | inr r ↦ elim r [ inl l ↦ inl (rise_before g h a b l) | inr l ↦ inr (inr (rise_before h g b a l)) ]
+  ];
   least = λ g a n. rise_before identity g identity_framed a (subst (λ x. x < place g) (sym identity_place)
       (above (place g) (λ e. n (same_place g identity a identity_framed (e ∙ sym identity_place)))));
 }

@@ -1,13 +1,14 @@
 -- The table of products, by computing.
-use Rattle.std.proofs.Common.{◌≡◌, ℕ, ◌<◌, Bool, true, false, [], refl}
-use Rattle.std.proofs.Common.{arith, cond}
+use Rattle.std.proofs.Common.{[], ◌≡◌, ℕ, ◌<◌, Bool, true, false, refl}
+use Rattle.std.proofs.Common.{cond}
 use Rattle.std.specs.Prelude.{nat_lt, slice_index}
 use Rattle.std.specs.List.{slice_index_or}
 use mathlib.Core.Bool.{xor}
-use Rattle.std.proofs.lemmas.Bool.Decides.{nat_tests}
+use Rattle.std.proofs.lemmas.Bool.{ltb-true}
+use Rattle.list_laws.proofs.Below.{all_below, below_told}
+use Rattle.list_laws.proofs.Tests.{implied}
 use Rattle.tensor_defs.specs.Operation.{IsProduct}
 use Rattle.tensor_laws.proofs.Products.{product_test, product_tested}
-use Rattle.op_matrix.specs.Tests.{all_below, below_told}
 use Rattle.op_matrix.specs.Table.{operation_at}
 use Rattle.op_matrix.specs.declared.tables.TheConstants.{PRODUCTS, FRAMES}
 use Rattle.op_matrix.specs.declared.entry.Frame.{Frame}
@@ -42,15 +43,8 @@ unfolding product_code
 codes_below = refl
 
 pub product_code_below : (n m : ℕ) → n < 64 → m < 64 → product_code n m < 64
-product_code_below n m h k = nat_lt_means _ _ (below_told 64 (λ m. nat_lt (product_code n m) 64)
+product_code_below n m h k = ltb-true _ _ (below_told 64 (λ m. nat_lt (product_code n m) 64)
     (below_told 64 (λ n. all_below 64 (λ m. nat_lt (product_code n m) 64)) codes_below n h) m k)
-  where
-    nat_lt_means : (a b : ℕ) → nat_lt a b ≡ true → a < b
-    nat_lt_means a b e = grind (arith, nat_tests)
-
-implied : (a b : Bool) → cond a b true ≡ true → a ≡ true → b ≡ true
-implied true b e f = e
-implied false b e f = cc
 
 -- the product of the operations with matrices n and m
 pub product_at : (n m : ℕ) (p q r : Bool) → n < 64 → m < 64 → common (frame_code n) (frame_code m) ≡ true →

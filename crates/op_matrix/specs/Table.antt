@@ -1,4 +1,8 @@
 -- The 64 matrices that are plain or hexagonal, in the order of operations.
+--   operation_at    the operation with matrix n of the list and the mark p
+--   matrix_place    the place of the matrix in the list
+--   place    the place of an operation among all 128 in their order
+--   nth_operation    the operation at a place in the order of all 128
 use Rattle.std.specs.Prelude.{ℕ, zero, suc, ◌+◌, ◌*◌, ◌/◌, ◌%◌, nat_eq, Bool, false, List, [], ◌∷◌, cond}
 use Rattle.tensor_defs.specs.Operation.{Operation, Row, identity, matrix, one, nought, minus_one, half, minus_half, h}
 use Rattle.tensor_defs.specs.Operation.{minus_h}

@@ -1,4 +1,5 @@
 -- An entry of the code as an entry of the definitions.
+--   hex_frame    the frames that a matrix has
 use Rattle.std.specs.Prelude.{ℕ, zero, suc, Bool, true, false}
 use Rattle.tensor_defs.specs.Operation as defs
 use Rattle.tensor_defs.specs.Operation.{Axis, x1, x2, x3}

@@ -1,3 +1,4 @@
+//! The entries of matrices.
 ghost use Rattle.std.specs.Prelude.{◌≡◌};
 
 /// The seven values of an entry, the greatest first.

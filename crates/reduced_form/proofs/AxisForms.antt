@@ -1,9 +1,16 @@
 -- Tables on the hexagonal axes: the component lists that representatives and the rows of words leave are the invariant
 -- tensors.
-use Rattle.std.proofs.Common.{◌≡◌, ℕ, zero, suc, ◌+◌, ◌^◌, ◌<◌, ◌≤◌, ◌↔◌, Bool, true, false, List, [], ◌∷◌, cond, length, get_or, replicate, refl, ap, sym, ◌∙◌, subst, arith, inl, inr, add-one}
+--   system_exists    sound classes have unknowns
+--   word_lines, words_given, group_closed    the rows of words
+--   axis_fits, axis_grows, axis_calm    the same where the rank is that of a shape
+use Rattle.std.proofs.Common.{[], ◌≡◌, ℕ, zero, suc, ◌+◌, ◌^◌, ◌<◌, ◌≤◌, ◌↔◌, Bool, true, false, List, ◌∷◌, cond, length, get_or, replicate, refl, ap, sym, ◌∙◌, subst, arith, inl, inr, add-one}
 use Rattle.std.specs.Prelude.{Contains, filter, nat_lt, slice_set, unsigned_abs}
-use Rattle.std.proofs.lemmas.Bool.{cases_eq, cases_lt}
+use Rattle.std.proofs.lemmas.Bool.{cases_eq, cases_lt, cases_Bool, le-ltb}
 use Rattle.std.proofs.lemmas.List.{length-replicate}
+use Rattle.std.proofs.lemmas.Option.{none-some, same_Some}
+use Rattle.constraint_rows.proofs.GatherLaws.{order_total}
+use Rattle.list_laws.proofs.Lists.{option_cases}
+use Rattle.list_laws.proofs.Members.{each_map, each_at}
 use Rattle.tensor_defs.specs.declared.Sign.{Sign}
 use Rattle.tensor_defs.specs.declared.Sign.TheVariants.{Plus, Minus}
 use Rattle.tensor_defs.specs.Elimination.{AreRepresentatives, AreUnknowns, Grows, GrowsFrom, by_place, carried, rows_of, share}
@@ -18,12 +25,10 @@ use Rattle.tensor_defs.specs.Words.{Word, even_row, is_used, odd_row, words}
 use Rattle.number_laws.proofs.NumberLaws.{num_mul-one, num_one-mul}
 use Rattle.tensor_laws.proofs.ComponentNumbers.{length-index_of, number-index_of}
 use Rattle.tensor_laws.proofs.Products.{product_unique}
-use Rattle.tensor_laws.proofs.Unique.{none_some, some_same}
 use Rattle.magnetic_groups.specs.Sets.{In, IsGroup}
 use Rattle.sign_moves.specs.declared.classes.Entry.{Entry}
 use Rattle.sign_moves.specs.Classes.{first_at, vanishes_at}
 use Rattle.sign_moves.specs.Signs.{signed}
-use Rattle.sign_moves.proofs.EngineLaws.{bool_cases}
 use Rattle.tensor_rank.specs.IndexLaws.{component_below_at, index_number_at}
 use Rattle.tensor_rank.specs.Orders.{Ordering, before_at, before_of}
 use Rattle.tensor_rank.specs.ShapeValue.{ShapeValue}
@@ -33,14 +38,12 @@ use Rattle.constraint_rows.specs.Classes.{class_at}
 use Rattle.constraint_rows.specs.WordRows.{AreParts, AreSound, AreWordRows, IsCarriedRow, IsGiven, IsOwn, carried_to, carrier_of}
 use Rattle.constraint_rows.specs.declared.rows.Part.{Part}
 use Rattle.sparse_rows.specs.Solutions.{Solve}
-use Rattle.sparse_rows.proofs.Lines.{each_map}
-use Rattle.axis_laws.specs.Laws.{IsClosed, OneElimination, RowsDecideInvariance, SolvesRows}
+use Rattle.axis_laws.specs.Laws.{IsClosed, OneElimination, RowsDecideInvariance, SolvesRows, SolvesWords}
 use Rattle.reduced_form.specs.Eliminated.{IsSystem}
 use Rattle.reduced_form.specs.Forms.{ArePlaces, IsFreeUpTo, free_at}
 use Rattle.reduced_form.specs.Solving.{FitsSet, IsSolution, line_at, lines_at}
-use Rattle.reduced_form.proofs.FreeLaws.{free_apart, free_inserted, free_passes, free_start, orders_total, places_next}
-use Rattle.reduced_form.proofs.Numbering.{option_cases}
-use Rattle.reduced_form.proofs.Systems.{are_unknowns, index_at, index_list, less_not, long, solve_sums, sums_solve}
+use Rattle.reduced_form.proofs.FreeLaws.{free_apart, free_inserted, free_passes, free_start, places_next}
+use Rattle.reduced_form.proofs.Systems.{are_unknowns, index_at, index_list, long, solve_sums, sums_solve}
 
 -- ---- sound classes have unknowns
 data Place (before : ℕ → ℕ → Bool) (free : List ℕ) (c : ℕ) : Type 0 where
@@ -50,7 +53,7 @@ data Place (before : ℕ → ℕ → Bool) (free : List ℕ) (c : ℕ) : Type 0 
 find_place : (before : ℕ → ℕ → Bool) (free : List ℕ) (c p : ℕ) → p ≤ length free →
     ((k : ℕ) → p ≤ k → k < length free → before c (free_at free k) ≡ true) → Place before free c
 find_place before free c zero h after = found 0 h after (λ k e. absurd (omega (arith, e)))
-find_place before free c (suc p) h after = elim (bool_cases (before c (free_at free p))) [
+find_place before free c (suc p) h after = elim (cases_Bool (before c (free_at free p))) [
   | inl e ↦ find_place before free c p (omega (arith, h)) (λ k l m. elim (cases_eq p k) [
     | inl q ↦ subst (λ x. before c (free_at free x) ≡ true) q e
     | inr q ↦ after k (omega (arith, l, q)) m
@@ -68,10 +71,10 @@ module _ (n r : ℕ) (size : n ≡ 3 ^ r) (o : Ordering) (es : List Entry) where
     where
       put : (c : ℕ) → c < n → (free : List ℕ) → IsFreeUpTo n (before_at r o) es free c → vanishes_at es c ≡ false → first_at es c ≡ c → Place (before_at r o) free c →
           (new : List ℕ) × IsFreeUpTo n (before_at r o) es new (c + 1)
-      put c h free f v e (found p within after stops) = (_, free_inserted f h v e (orders_total n r o size) p within after stops)
+      put c h free f v e (found p within after stops) = (_, free_inserted f h v e (order_total n r size o) p within after stops)
 
       step : (c : ℕ) → c < n → (free : List ℕ) → IsFreeUpTo n (before_at r o) es free c → (new : List ℕ) × IsFreeUpTo n (before_at r o) es new (c + 1)
-      step c h free f = elim (bool_cases (vanishes_at es c)) [
+      step c h free f = elim (cases_Bool (vanishes_at es c)) [
         | inl v ↦ (free, free_passes f (λ w e. let clash : true ≡ false = sym v ∙ w in cc))
         | inr v ↦ elim (cases_eq (first_at es c) c) [
           | inl e ↦ put c h free f v e (find_place (before_at r o) free c (length free) (omega arith) (λ k l m. absurd (omega (arith, l, m))))
@@ -84,7 +87,7 @@ module _ (n r : ℕ) (size : n ≡ 3 ^ r) (o : Ordering) (es : List Entry) where
   places_exist free f (suc k) h =
       let before = places_exist free f k (omega (arith, h)) in
       let inside : k < length free = omega (arith, h) in
-      let apart = free_apart (orders_total n r o size).apart f in
+      let apart = free_apart (order_total n r size o).apart f in
       let next : List ℕ = slice_set before.0 (free_at free k) k in
       (next, subst (λ m. ArePlaces n free next m) (add-one k) (places_next before.1 apart inside (free_at free k) k refl (f.below k inside) refl))
 
@@ -95,18 +98,13 @@ module _ (n r : ℕ) (size : n ≡ 3 ^ r) (o : Ordering) (es : List Entry) where
       (f.0, p.0, record { size = size; sound = sound; unknowns = f.1; placed = p.1 })
 
 -- ---- the rows of words
-each_at : {X : Type 0} (P : X → Type 0) (d : X) (xs : List X) (k : ℕ) → k < length xs → Each P xs → P (get_or xs k d)
-each_at P d [] k h p = absurd (omega (arith, h))
-each_at P d (x ∷ xs) zero h p = p.0
-each_at P d (x ∷ xs) (suc k) h p = each_at P d xs k (omega (arith, h)) p.1
-
 by_place_same : (r : ℕ) (us : List Index) (f g : Index → Number) → Each (λ c. length c ≡ r) us → ((c : Index) → length c ≡ r → f c ≡ g c) → by_place us f ≡ by_place us g
 by_place_same r us f g of_rank e = λ i k. at k i
   where
     at : (k : ℕ) → by_place us f k ≡ by_place us g k
     at k = elim (cases_lt k (length us)) as (λ _. by_place us f k ≡ by_place us g k) [
-      | inl h ↦ ap (λ x. cond (nat_lt k (length us)) x num_zero) (e (get_or us k []) (each_at (λ c. length c ≡ r) [] us k h of_rank))
-      | inr h ↦ ap (λ b. cond b (f (get_or us k [])) num_zero) (less_not k (length us) h) ∙ ap (λ b. cond b (g (get_or us k [])) num_zero) (sym (less_not k (length us) h))
+      | inl h ↦ ap (λ x. cond (nat_lt k (length us)) x num_zero) (e (get_or us k []) (each_at (λ c. length c ≡ r) us of_rank k [] h))
+      | inr h ↦ ap (λ b. cond b (f (get_or us k [])) num_zero) (le-ltb k (length us) h) ∙ ap (λ b. cond b (g (get_or us k [])) num_zero) (sym (le-ltb k (length us) h))
     ]
 
 word_line : (r : ℕ) (before : ℕ → ℕ → Bool) (es : List Entry) (us : List Index) (k : Index → Number) (ps : List Part) → Each (λ c. length c ≡ r) us → IsCarriedRow r before es k ps →
@@ -155,6 +153,57 @@ signed_times Minus x = ap (λ y. mul y x) (sym (num_mul-one _))
 abbrev used : ℕ → List Word
 used r = filter is_used (words r)
 
+-- the component lists that classes and rows leave are those that follow the representatives, and on which the words of
+-- these rows add up to zero
+module _ (n r : ℕ) (o : Ordering) (es : List Entry) (ws : List Word) (rows : List (List Part)) (us places : List ℕ)
+    (sys : IsSystem n r o es us places) (are_words : AreWordRows r (before_at r o) es ws rows) (parts : Each (AreParts n) rows) (t : Tensor) where
+  abbrev U : List Index
+  U = index_list r us
+
+  rep_rows : lines_at U rows ≡ rows_of (carrier_of r es) r U ws
+  rep_rows = word_lines r (before_at r o) es U (are_unknowns sys).of_rank ws rows are_words
+
+  owns : Each (λ ps. Each (λ p. IsOwn es p.component) ps) rows
+  owns = each_map (IsGiven (before_at r o) es) (λ ps. Each (λ p. IsOwn es p.component) ps) (λ ps g. g.own) rows
+      (words_given r (before_at r o) es ws rows are_words)
+
+  values : (k : ℕ) → k < length us → t (get_or U k []) ≡ t (index_of r (free_at us k))
+  values k h = ap t (index_at sys k h)
+
+  pub solution_solves : IsSolution r es rows t → SolvesWords r (carrier_of r es) U ws t
+  solution_solves sol = record {
+    none = λ c l e. elim (option_cases (class_at es (component_number c))) [
+      | inl z ↦ ap t (sym (index_number_at r c l)) ∙ sol.none (component_number c) (component_below_at r c l) z
+      | inr z ↦ absurd (none-some _ (sym e ∙ ap (carried_to r) z.1))
+    ];
+    some = λ c d s l e. elim (option_cases (class_at es (component_number c))) [
+      | inl z ↦ absurd (none-some (d, s) (sym (ap (carried_to r) z) ∙ e))
+      | inr z ↦
+          let told = same_Some (index_of r z.0.0, signed z.0.1 num_one) (d, s) (sym (ap (carried_to r) z.1) ∙ e) in
+          ap t (sym (index_number_at r c l))
+          ∙ sol.some (component_number c) z.0.0 z.0.1 (component_below_at r c l) z.1
+          ∙ signed_times z.0.1 (t (index_of r z.0.0)) ∙ (λ i. mul (told i).1 (t (told i).0))
+    ];
+    rows = subst (λ m. Solve m (λ k. t (get_or U k [])) (rows_of (carrier_of r es) r U ws)) (sym (long sys))
+        (subst (Solve (length us) (λ k. t (get_or U k []))) rep_rows
+        (sums_solve sys t (λ k. t (get_or U k [])) values rows parts owns sol.sums));
+  }
+
+  pub solves_solution : SolvesWords r (carrier_of r es) U ws t → IsSolution r es rows t
+  solves_solution s = record {
+    none = λ c h e. s.none (index_of r c) (length-index_of r c) (ap (λ m. carried_to r (class_at es m)) (number_of c h) ∙ ap (carried_to r) e);
+    some = λ c d g h e.
+        s.some (index_of r c) (index_of r d) (signed g num_one) (length-index_of r c)
+        (ap (λ m. carried_to r (class_at es m)) (number_of c h) ∙ ap (carried_to r) e)
+        ∙ sym (signed_times g (t (index_of r d)));
+    sums = solve_sums sys t (λ k. t (get_or U k [])) values rows parts owns
+        (subst (Solve (length us) (λ k. t (get_or U k []))) (sym rep_rows)
+        (subst (λ m. Solve m (λ k. t (get_or U k [])) (rows_of (carrier_of r es) r U ws)) (long sys) s.rows));
+  }
+    where
+      number_of : (c : ℕ) → c < 3 ^ r → component_number (index_of r c) ≡ c
+      number_of c h = number-index_of r c h
+
 module _ (hs : List Operation) (n : ℕ) (o : Ordering) (es : List Entry) (rows : List (List Part)) (j : JahnSymbol) where
   module _ (size : n ≡ 3 ^ rank j) (sound : AreSound n (before_at (rank j) o) es) (are_words : AreWordRows (rank j) (before_at (rank j) o) es (used (rank j)) rows)
       (reps : AreRepresentatives j (In hs) (before_of o) (carrier_of (rank j) es)) where
@@ -174,61 +223,16 @@ module _ (hs : List Operation) (n : ℕ) (o : Ordering) (es : List Entry) (rows 
         found_system : (us : List ℕ) × (places : List ℕ) × IsSystem n (rank j) o es us places
         found_system = system_exists n (rank j) size o es sound
 
-        us : List ℕ
-        us = found_system.0
+        decides : (t : Tensor) → IsInvariant j (In hs) t ↔ SolvesRows j (carrier_of (rank j) es) (index_list (rank j) found_system.0) t
+        decides t =
+            law j hs (before_of o) (carrier_of (rank j) es) (index_list (rank j) found_system.0) (orders_are_orders (rank j) o)
+            closed framed other reps (are_unknowns found_system.2) t
 
-        sys : IsSystem n (rank j) o es us found_system.1
-        sys = found_system.2
+        solves : (t : Tensor) → IsSolution (rank j) es rows t → SolvesRows j (carrier_of (rank j) es) (index_list (rank j) found_system.0) t
+        solves = solution_solves n (rank j) o es (used (rank j)) rows found_system.0 found_system.1 found_system.2 are_words parts
 
-        U : List Index
-        U = index_list (rank j) us
-
-        rep_rows : lines_at U rows ≡ rows_of (carrier_of (rank j) es) (rank j) U (used (rank j))
-        rep_rows = word_lines (rank j) (before_at (rank j) o) es U (are_unknowns sys).of_rank (used (rank j)) rows are_words
-
-        owns : Each (λ ps. Each (λ p. IsOwn es p.component) ps) rows
-        owns = each_map (IsGiven (before_at (rank j) o) es) (λ ps. Each (λ p. IsOwn es p.component) ps) (λ ps g. g.own) rows
-            (words_given (rank j) (before_at (rank j) o) es (used (rank j)) rows are_words)
-
-        decides : (t : Tensor) → IsInvariant j (In hs) t ↔ SolvesRows j (carrier_of (rank j) es) U t
-        decides t = law j hs (before_of o) (carrier_of (rank j) es) U (orders_are_orders (rank j) o) closed framed other reps (are_unknowns sys) t
-
-        values : (t : Tensor) (k : ℕ) → k < length us → t (get_or U k []) ≡ t (index_of (rank j) (free_at us k))
-        values t k h = ap t (index_at sys k h)
-
-        solves : (t : Tensor) → IsSolution (rank j) es rows t → SolvesRows j (carrier_of (rank j) es) U t
-        solves t sol = record {
-          none = λ c l e. elim (option_cases (class_at es (component_number c))) [
-            | inl z ↦ ap t (sym (index_number_at (rank j) c l)) ∙ sol.none (component_number c) (component_below_at (rank j) c l) z
-            | inr z ↦ absurd (none_some _ (sym e ∙ ap (carried_to (rank j)) z.1))
-          ];
-          some = λ c d s l e. elim (option_cases (class_at es (component_number c))) [
-            | inl z ↦ absurd (none_some (d, s) (sym (ap (carried_to (rank j)) z) ∙ e))
-            | inr z ↦
-                let told = some_same (index_of (rank j) z.0.0, signed z.0.1 num_one) (d, s) (sym (ap (carried_to (rank j)) z.1) ∙ e) in
-                ap t (sym (index_number_at (rank j) c l))
-                ∙ sol.some (component_number c) z.0.0 z.0.1 (component_below_at (rank j) c l) z.1
-                ∙ signed_times z.0.1 (t (index_of (rank j) z.0.0)) ∙ (λ i. mul (told i).1 (t (told i).0))
-          ];
-          rows = subst (λ m. Solve m (λ k. t (get_or U k [])) (rows_of (carrier_of (rank j) es) (rank j) U (used (rank j)))) (sym (long sys))
-              (subst (Solve (length us) (λ k. t (get_or U k []))) rep_rows
-              (sums_solve sys t (λ k. t (get_or U k [])) (values t) rows parts owns sol.sums));
-        }
-
-        solution : (t : Tensor) → SolvesRows j (carrier_of (rank j) es) U t → IsSolution (rank j) es rows t
-        solution t s = record {
-          none = λ c h e. s.none (index_of (rank j) c) (length-index_of (rank j) c) (ap (λ m. carried_to (rank j) (class_at es m)) (number_of c h) ∙ ap (carried_to (rank j)) e);
-          some = λ c d g h e.
-              s.some (index_of (rank j) c) (index_of (rank j) d) (signed g num_one) (length-index_of (rank j) c)
-              (ap (λ m. carried_to (rank j) (class_at es m)) (number_of c h) ∙ ap (carried_to (rank j)) e)
-              ∙ sym (signed_times g (t (index_of (rank j) d)));
-          sums = solve_sums sys t (λ k. t (get_or U k [])) (values t) rows parts owns
-              (subst (Solve (length us) (λ k. t (get_or U k []))) (sym rep_rows)
-              (subst (λ m. Solve m (λ k. t (get_or U k [])) (rows_of (carrier_of (rank j) es) (rank j) U (used (rank j)))) (long sys) s.rows));
-        }
-          where
-            number_of : (c : ℕ) → c < 3 ^ rank j → component_number (index_of (rank j) c) ≡ c
-            number_of c h = number-index_of (rank j) c h
+        solution : (t : Tensor) → SolvesRows j (carrier_of (rank j) es) (index_list (rank j) found_system.0) t → IsSolution (rank j) es rows t
+        solution = solves_solution n (rank j) o es (used (rank j)) rows found_system.0 found_system.1 found_system.2 are_words parts
 
     grows_here : IsFramed (In hs) → ¬ AllOf (In hs) IsPlain →
         ((us : List Index) → AreUnknowns (rank j) (before_of o) (carrier_of (rank j) es) us → GrowsFrom [] (lines_at us rows)) → Grows j (In hs) (before_of o)

@@ -1,17 +1,23 @@
 -- The table that classes give fits.
-use Rattle.std.proofs.Common.{◌≡◌, ℕ, zero, suc, ◌^◌, ◌<◌, ◌≤◌, Bool, true, false, List, [], ◌∷◌, length, get_or, map, refl, ap, sym, ◌∙◌, arith, subst, inl, inr, lit<}
-use Rattle.std.specs.Prelude.{Some, None, slice_get, IsTrue}
-use Rattle.std.proofs.lemmas.Bool.{cases_lt}
+--   get_told    lists
+--   unit_value, unit_proper, plain_fits, solve_fits, form_whole, rows_same, terms_same
+--       terms that are 1 or -1 times a free component
+use Rattle.std.proofs.Common.{[], ◌≡◌, ℕ, ◌^◌, ◌<◌, ◌≤◌, Bool, true, false, List, ◌∷◌, length, get_or, map, refl, ap, sym, ◌∙◌, arith, subst, inl, inr, lit<}
+use Rattle.std.specs.Prelude.{Some, slice_get, IsTrue}
+use Rattle.std.proofs.lemmas.Bool.{cases_lt, cases_Bool}
 use Rattle.std.proofs.lemmas.List.{get_or-map, ext_get_or, length-map}
 use Rattle.std.proofs.lemmas.Nat.Gcd.{dvd_refl}
-use native.Mathlib.Bridge.{le_prop}
-use lib.IntN.{ℤ, pos, negsuc}
+use Rattle.std.proofs.lemmas.Option.{slice_get_within, get_or_from_slice_get}
+use Rattle.number_laws.proofs.Fractions.{over-whole}
+use Rattle.list_laws.proofs.Rising.{rising_get}
+use Rattle.list_laws.proofs.Members.{each_get}
+use lib.IntN.{pos, negsuc}
 use Rattle.tensor_defs.specs.Jahn.{JahnSymbol, rank, body_brackets}
-use Rattle.tensor_defs.specs.Lists.{Each, IsRising}
-use Rattle.tensor_defs.specs.Number.{Number, mul, num_zero, whole, fraction, over, positive_suc}
+use Rattle.tensor_defs.specs.Lists.{Each}
+use Rattle.tensor_defs.specs.Number.{Number, mul, num_zero}
 use Rattle.tensor_defs.specs.Operation.{Operation}
 use Rattle.tensor_defs.specs.Table as defs
-use Rattle.tensor_defs.specs.Table.{Table, Fits, IsChoice, IsProper, AreTerms, value_at, chosen, sum_terms}
+use Rattle.tensor_defs.specs.Table.{Table, Fits, IsProper, AreTerms, value_at, chosen, sum_terms}
 use Rattle.tensor_defs.specs.Tensor.{Index, Tensor, component_number, index_of}
 use Rattle.tensor_defs.specs.declared.Sign.{Sign}
 use Rattle.tensor_defs.specs.declared.Sign.TheVariants.{Plus, Minus}
@@ -23,7 +29,6 @@ use Rattle.sign_moves.specs.Classes.{first_at, sign_at, vanishes_at}
 use Rattle.sign_moves.specs.Firsts.{IsFirstTable}
 use Rattle.sign_moves.specs.Moves.{IsReversible, IsKept}
 use Rattle.sign_moves.specs.Signs.{signed}
-use Rattle.sign_moves.proofs.EngineLaws.{bool_cases}
 use Rattle.sign_moves.proofs.FirstLaws.{spread, spread_kept, spread_open, spread_vanishing, first_can, first_same}
 use Rattle.tensor_rank.specs.declared.exchanges.Exchange.{Exchange}
 use Rattle.tensor_rank.specs.IndexLaws.{index_number_at, component_below_at}
@@ -39,41 +44,24 @@ use Rattle.constraint_rows.specs.Classes.{IsGeneratedBy, IsPlainTable, moves_of}
 use Rattle.constraint_rows.specs.PlainOps.{StandForAll}
 use Rattle.constraint_rows.proofs.InvariantLaws.{all_moves, invariant_kept, kept_invariant, generators_suffice, fewer_suffice}
 use Rattle.reduced_form.specs.declared.forms.Term.{Term}
-use Rattle.reduced_form.specs.Forms.{term_of, FormValue, row_at, form_table, unit_term, free_at, IsForm, IsFormOf}
+use Rattle.reduced_form.specs.Forms.{HasUnits, unit_fraction, term_of, FormValue, row_at, form_table, unit_term, free_at, HasUnitRows, IsForm, IsFormOf, IsUnitRow, IsWellFormed}
+
+-- each row of the table that classes give is empty or one free component with the factor 1 or -1
+pub form_units : (n : ℕ) (before : ℕ → ℕ → Bool) (es : List Entry) (f : FormValue) → IsFormOf n before es f → HasUnitRows n f
+form_units n before es f h c l = by_case (vanishes_at es c) refl
+  where
+    by_case : (b : Bool) → vanishes_at es c ≡ b → IsUnitRow (row_at f.rows c)
+    by_case true e = subst IsUnitRow (sym (h.none c l e)) tt
+    by_case false e = let one = h.one c l e in subst IsUnitRow (sym one.3) (refl, sign_at es c, refl)
 
 -- ---- lists
-pub each_get : {X : Type 0} (P : X → Type 0) (d : X) (xs : List X) → ((k : ℕ) → k < length xs → P (get_or xs k d)) → Each P xs
-each_get P d [] h = tt
-each_get P d (x ∷ xs) h = (h 0 (omega arith), each_get P d xs (λ k l. h (suc k) (omega arith)))
-
-pub rising_get : {X : Type 0} (before : X → X → Bool) (d : X) (xs : List X) → ((i k : ℕ) → i < k → k < length xs → IsTrue (before (get_or xs i d) (get_or xs k d))) → IsRising before xs
-rising_get before d [] h = tt
-rising_get before d (x ∷ xs) h = (
-  each_get (λ y. IsTrue (before x y)) d xs (λ k l. h 0 (suc k) (omega arith) (omega arith)),
-  rising_get before d xs (λ i k l m. h (suc i) (suc k) (omega arith) (omega arith)),
-)
-
-none_some : {X : Type 0} (x : X) → None ≡ Some x → ⊥
-none_some x e = cc
-
-some_same : {X : Type 0} (x y : X) → Some x ≡ Some y → x ≡ y
-some_same x y e = cc
-
 pub get_told : {X : Type 0} (d x : X) (xs : List X) (k : ℕ) → slice_get xs k ≡ Some x → (k < length xs) × (get_or xs k d ≡ x)
-get_told d x [] k e = absurd (none_some x e)
-get_told d x (y ∷ xs) zero e = (omega arith, some_same y x e)
-get_told d x (y ∷ xs) (suc k) e =
-    let rest = get_told d x xs k e in
-    (omega (arith, rest.0), rest.1)
+get_told d x xs k e = (slice_get_within xs k x e, get_or_from_slice_get xs k x d e)
 
 -- ---- terms that are 1 or -1 times a free component
-fraction_one : (a : ℤ) → over a 1 ≡ whole a
-unfolding over fraction whole
-fraction_one a = λ i. fraction a 1 (le_prop (positive_suc 0) (lit< tt) i)
-
 pub unit_value : (k : ℕ) (s : Sign) (v : ℕ → Number) → sum_terms (term_of (unit_term k s) ∷ []) v ≡ signed s (v k)
-unit_value k Plus v = num_add-zero _ ∙ ap (λ x. mul x (v k)) (fraction_one (pos 1)) ∙ num_one-mul (v k)
-unit_value k Minus v = num_add-zero _ ∙ ap (λ x. mul x (v k)) (fraction_one (negsuc 0))
+unit_value k Plus v = num_add-zero _ ∙ ap (λ x. mul x (v k)) (over-whole (pos 1)) ∙ num_one-mul (v k)
+unit_value k Minus v = num_add-zero _ ∙ ap (λ x. mul x (v k)) (over-whole (negsuc 0))
 
 pub unit_proper : (k : ℕ) (s : Sign) → IsProper (term_of (unit_term k s))
 unit_proper k Plus = record { terms = record { positive = lit< tt; lowest = (dvd_refl 1, dvd_refl 1, λ d p q. p) }; not_zero = λ e. cc }
@@ -138,7 +126,7 @@ module _ (j : JahnSymbol) (gs : List Operation) (ps : List PlainOp) (all : Stand
       sym (value_free v p.0 p.1) ∙ ap (numbered (rank j) (value_at the_table v)) p.2
 
   value_spread : (v : List Number) (c : ℕ) → c < 3 ^ rank j → numbered (rank j) (value_at the_table v) c ≡ spread (vanishes_at es) (sign_at es) (first_at es) (numbered (rank j) (value_at the_table v)) c
-  value_spread v c h = elim (bool_cases (vanishes_at es c)) [
+  value_spread v c h = elim (cases_Bool (vanishes_at es c)) [
     | inl o ↦ value_vanishing v c h o ∙ sym (spread_vanishing (vanishes_at es) (sign_at es) (first_at es) (numbered (rank j) (value_at the_table v)) c o)
     | inr o ↦
         value_open v c h o ∙ ap (signed (sign_at es c)) (value_first v c h o)
@@ -161,7 +149,7 @@ module _ (j : JahnSymbol) (gs : List Operation) (ps : List PlainOp) (all : Stand
   choice_at t k l = get_or-map (numbered (rank j) t) f.free k 0 num_zero l
 
   value_choice : (t : Tensor) → IsKept (3 ^ rank j) (all_moves j ps) (numbered (rank j) t) → (c : ℕ) → c < 3 ^ rank j → numbered (rank j) (value_at the_table (choice t)) c ≡ numbered (rank j) t c
-  value_choice t kept c h = elim (bool_cases (vanishes_at es c)) [
+  value_choice t kept c h = elim (cases_Bool (vanishes_at es c)) [
     | inl o ↦ value_vanishing (choice t) c h o ∙ sym (links.forced c h o (numbered (rank j) t) kept)
     | inr o ↦
         let p = form.one c h o in
@@ -192,7 +180,7 @@ module _ (j : JahnSymbol) (gs : List Operation) (ps : List PlainOp) (all : Stand
     of_rank = each_get (λ c. length c ≡ rank j) [] the_table.free (λ k l. ap length (free_index k (within k l)) ∙ length-index_of (rank j) (free_at f.free k));
     well_formed = by_number (λ is. AreTerms (the_table.terms is) × Each (λ t. t.place < length the_table.free) (the_table.terms is)) (λ c h.
         let Q : List defs.Term → Type 0 = λ ts. AreTerms ts × Each (λ t. t.place < length the_table.free) ts in
-        elim (bool_cases (vanishes_at es c)) [
+        elim (cases_Bool (vanishes_at es c)) [
           | inl o ↦ subst Q (sym (terms_at c h [] (form.none c h o))) ((tt, tt), tt)
           | inr o ↦
               let p = form.one c h o in
@@ -221,7 +209,7 @@ module _ (j : JahnSymbol) (gs : List Operation) (ps : List PlainOp) (all : Stand
         ∙ (λ i. term_of (unit_term (same i) (sign i)) ∷ []);
     earlier = λ is d l. by_number (λ x. Each (λ t. slice_get the_table.free t.place ≡ Some d → ¬ IsTrue (before_of ord x d)) (the_table.terms x)) (λ c h.
         let Q : List defs.Term → Type 0 = λ ts. Each (λ t. slice_get the_table.free t.place ≡ Some d → ¬ IsTrue (before_of ord (index_of (rank j) c) d)) ts in
-        elim (bool_cases (vanishes_at es c)) as (λ _. Q (the_table.terms (index_of (rank j) c))) [
+        elim (cases_Bool (vanishes_at es c)) as (λ _. Q (the_table.terms (index_of (rank j) c))) [
           | inl v ↦ subst Q (sym (terms_at c h [] (form.none c h v))) tt
           | inr v ↦
               let p = form.one c h v in
@@ -272,13 +260,22 @@ form_whole {n} {before} {es} {f} form len few = record {
   len = len;
   below = form.only_below;
   few = few;
-  named = λ c h. elim (bool_cases (vanishes_at es c)) as (λ _. Each (λ t. t.free < length f.free) (row_at f.rows c)) [
+  named = λ c h. elim (cases_Bool (vanishes_at es c)) as (λ _. Each (λ t. t.free < length f.free) (row_at f.rows c)) [
     | inl v ↦ subst (λ ts. Each (λ t. t.free < length f.free) ts) (sym (form.none c h v)) tt
     | inr v ↦
         let p = form.one c h v in
         subst (λ ts. Each (λ t. t.free < length f.free) ts) (sym p.3) (p.1, tt)
   ];
 }
+
+-- its factors are 1 or -1
+pub form_factors : {n : ℕ} {before : ℕ → ℕ → Bool} {es : List Entry} {f : FormValue} → IsFormOf n before es f → HasUnits n f
+form_factors {n} {before} {es} {f} form c h =
+    let Q : List Term → Type 0 = λ ts. Each (λ t. (s : Sign) × (t.factor ≡ unit_fraction s)) ts in
+    elim (cases_Bool (vanishes_at es c)) as (λ _. Q (row_at f.rows c)) [
+      | inl v ↦ subst Q (sym (form.none c h v)) tt
+      | inr v ↦ subst Q (sym (form.one c h v).3) ((sign_at es c, refl), tt)
+    ]
 
 -- rows that agree at each place are the same
 pub rows_same : (xs ys : List (List Term)) → length xs ≡ length ys → ((k : ℕ) → k < length xs → row_at xs k ≡ row_at ys k) → xs ≡ ys
@@ -288,3 +285,24 @@ pub terms_same : (xs ys : List Term) → length xs ≡ length ys → ((k : ℕ) 
 terms_same xs ys len each =
     let none : Term = record { free = 0; factor = record { num = pos 0; den = 1 } } in
     ext_get_or none xs ys len (λ k l. each k none l)
+
+-- the terms of such a table are well formed
+pub form_formed : (n r : ℕ) (before : ℕ → ℕ → Bool) (es : List Entry) (f : FormValue) → n ≡ 3 ^ r → IsFormOf n before es f →
+    IsWellFormed r (form_table r f)
+form_formed n r before es f size h c l = by_case (vanishes_at es number) refl
+  where
+    number : ℕ
+    number = component_number c
+
+    below : number < n
+    below = subst (λ x. number < x) (sym size) (component_below_at r c l)
+
+    Row : List Term → Type 0
+    Row ts = AreTerms (map term_of ts) × Each (λ t. t.place < length (form_table r f).free) (map term_of ts)
+
+    by_case : (b : Bool) → vanishes_at es number ≡ b → Row (row_at f.rows number)
+    by_case true e = subst Row (sym (h.none number below e)) ((tt, tt), tt)
+    by_case false e =
+        let one = h.one number below e in
+        let place : one.0 < length (form_table r f).free = subst (λ x. one.0 < x) (sym (length-map f.free (index_of r))) one.1 in
+        subst Row (sym one.3) (((tt, tt), (unit_proper one.0 (sign_at es number), tt)), (place, tt))

@@ -1,46 +1,23 @@
 -- Free components in order, and their places.
-use Rattle.std.proofs.Common.{◌≡◌, ◌≢◌, ℕ, zero, suc, ◌+◌, ◌-◌, ◌^◌, ◌<◌, ◌≤◌, Bool, true, false, List, [], ◌∷◌, ◌++◌, map, cond, length, get_or, set, arith, ap, sym, ◌∙◌, subst, ◌⊎◌, inl, inr}
+--   class_open, class_vanishing, class_some    what a table tells of a component
+--   free_start, free_passes, free_inserted, places_next    the free components below an end
+--   rows_more, free_apart, form_made    rows
+use Rattle.std.proofs.Common.{[], ◌≡◌, ℕ, zero, suc, ◌+◌, ◌-◌, ◌<◌, ◌≤◌, Bool, true, false, List, ◌∷◌, ◌++◌, map, cond, length, get_or, set, arith, ap, sym, ◌∙◌, subst, inl, inr}
 use Rattle.std.specs.List.{insert}
 use Rattle.std.specs.Prelude.{slice_set, Some, None}
-use Rattle.std.proofs.lemmas.Bool.{cases_lt}
+use Rattle.std.proofs.lemmas.Bool.{cases_lt, cases_Bool}
 use Rattle.std.proofs.lemmas.List.{length-set, get_or-set_other}
 use Rattle.std.proofs.lemmas.Grind.{get_or-set_at}
 use Rattle.std.proofs.lemmas.List.Edits.{length-insert, get_or-insert_below, get_or-insert_at, get_or-insert_above}
-use Rattle.tensor_defs.specs.Tensor.{component_number, index_of}
+use Rattle.std.proofs.lemmas.Option.{none-some, same_Some}
+use Rattle.constraint_rows.proofs.GatherLaws.{IsTotalBelow}
 use Rattle.tensor_defs.specs.declared.Sign.{Sign}
-use Rattle.tensor_laws.proofs.Unique.{none_some, some_same}
-use Rattle.tensor_laws.proofs.ComponentNumbers.{length-index_of, number-index_of}
 use Rattle.sign_moves.specs.declared.classes.Entry.{Entry}
 use Rattle.sign_moves.specs.Classes.{entry_at, first_at, sign_at, vanishes_at}
 use Rattle.sign_moves.specs.Firsts.{AreSettled}
-use Rattle.sign_moves.proofs.EngineLaws.{bool_cases}
-use Rattle.tensor_rank.specs.Orders.{Ordering, before_at}
-use Rattle.tensor_rank.specs.StrictOrders.{orders_are_orders}
 use Rattle.constraint_rows.specs.Classes.{class_at}
 use Rattle.reduced_form.specs.declared.forms.Term.{Term}
 use Rattle.reduced_form.specs.Forms.{free_at, row_at, row_of, unit_term, IsFreeUpTo, ArePlaces, IsFormOf}
-
--- ---- orders of component numbers
-pub record IsTotal (n : ℕ) (before : ℕ → ℕ → Bool) : Type 0 where
-  pub apart : (c : ℕ) → before c c ≡ true → ⊥
-  pub transitive : (c d e : ℕ) → before c d ≡ true → before d e ≡ true → before c e ≡ true
-  pub total : (c d : ℕ) → c < n → d < n → c ≢ d → before c d ≡ false → before d c ≡ true
-
-pub orders_total : (n r : ℕ) (o : Ordering) → n ≡ 3 ^ r → IsTotal n (before_at r o)
-orders_total n r o size = record {
-  apart = λ c. (orders_are_orders r o).irreflexive (index_of r c);
-  transitive = λ c d e. (orders_are_orders r o).transitive (index_of r c) (index_of r d) (index_of r e);
-  total = λ c d h l away not.
-      let in_c : c < 3 ^ r = subst (λ (x : ℕ). c < x) size h in
-      let in_d : d < 3 ^ r = subst (λ (x : ℕ). d < x) size l in
-      let differ : index_of r c ≢ index_of r d = λ e. away (sym (number-index_of r c in_c) ∙ ap component_number e ∙ number-index_of r d in_d) in
-      one_way (before_at r o c d) (before_at r o d c) not
-      ((orders_are_orders r o).total (index_of r c) (index_of r d) (length-index_of r c) (length-index_of r d) differ);
-}
-  where
-    one_way : (a b : Bool) → a ≡ false → (a ≡ true) ⊎ (b ≡ true) → b ≡ true
-    one_way a b f (inl e) = let t : false ≡ true = sym f ∙ e in cc
-    one_way a b f (inr e) = e
 
 -- ---- what a table tells of a component
 pub class_open : (es : List Entry) (c : ℕ) → vanishes_at es c ≡ false → class_at es c ≡ Some (first_at es c, sign_at es c)
@@ -51,10 +28,10 @@ class_vanishing es c v = ap (λ b. cond b None (Some (first_at es c, sign_at es 
 
 pub class_some : (es : List Entry) (c : ℕ) (x : ℕ × Sign) → class_at es c ≡ Some x →
     (vanishes_at es c ≡ false) × (first_at es c ≡ x.0) × (sign_at es c ≡ x.1)
-class_some es c x e = elim (bool_cases (vanishes_at es c)) as (λ _. (vanishes_at es c ≡ false) × (first_at es c ≡ x.0) × (sign_at es c ≡ x.1)) [
-  | inl v ↦ absurd (none_some x (sym (class_vanishing es c v) ∙ e))
+class_some es c x e = elim (cases_Bool (vanishes_at es c)) as (λ _. (vanishes_at es c ≡ false) × (first_at es c ≡ x.0) × (sign_at es c ≡ x.1)) [
+  | inl v ↦ absurd (none-some x (sym (class_vanishing es c v) ∙ e))
   | inr v ↦
-      let same = some_same (first_at es c, sign_at es c) x (sym (class_open es c v) ∙ e) in
+      let same = same_Some (first_at es c, sign_at es c) x (sym (class_open es c v) ∙ e) in
       (v, ap (λ p. p.0) same, ap (λ p. p.1) same)
 ]
 
@@ -108,7 +85,7 @@ spot xs i y k le h =
     ]
 
 module _ {n : ℕ} {before : ℕ → ℕ → Bool} {es : List Entry} {free : List ℕ} {c : ℕ} (h : IsFreeUpTo n before es free c) (below : c < n)
-    (open_c : vanishes_at es c ≡ false) (first_c : first_at es c ≡ c) (order : IsTotal n before) (place : ℕ) (within : place ≤ length free)
+    (open_c : vanishes_at es c ≡ false) (first_c : first_at es c ≡ c) (order : IsTotalBelow n before) (place : ℕ) (within : place ≤ length free)
     (after : (k : ℕ) → place ≤ k → k < length free → before c (free_at free k) ≡ true)
     (stops : (k : ℕ) → k + 1 ≡ place → before c (free_at free k) ≡ false) where
   earlier : (k : ℕ) → k < place → before (free_at free k) c ≡ true

@@ -1,9 +1,14 @@
 -- The unknowns that no kept row tells, and their numbers.
-use Rattle.std.proofs.Common.{◌≡◌, ℕ, zero, suc, ◌+◌, ◌<◌, ◌≤◌, ◌≢◌, List, [], ◌∷◌, ◌++◌, length, get_or, map, take, set, refl, ap, sym, ◌∙◌, subst, arith, ◌⊎◌, inl, inr, length-append, add-one}
+--   map_more    a list with one more
+--   pivots_next, pivot_read, entries_read, length-kepts    pivots
+--   places_free, places_told, number_rises, number_less, number_few, place_numbered, IsFreePlace
+--       free unknowns and their numbers
+use Rattle.std.proofs.Common.{◌≡◌, ℕ, zero, suc, ◌+◌, ◌<◌, ◌≤◌, ◌≢◌, List, [], ◌∷◌, ◌++◌, length, get_or, map, take, set, refl, ap, sym, ◌∙◌, subst, arith, inl, inr, length-append, add-one}
 use Rattle.std.specs.Prelude.{Option, Some, None, slice_set}
 use Rattle.std.proofs.lemmas.Bool.{cases_lt, cases_eq}
-use Rattle.std.proofs.lemmas.List.{length-set, get_or-set_other}
+use Rattle.std.proofs.lemmas.List.{length-set, get_or-set_other, get_or_push, get_or_append_left}
 use Rattle.std.proofs.lemmas.Grind.{get_or-set_at}
+use Rattle.list_laws.proofs.Lists.{option_cases}
 use Rattle.tensor_defs.specs.Elimination.{Kept}
 use Rattle.sparse_rows.specs.KeptRows.{kepts}
 use Rattle.sparse_rows.specs.declared.entry.KeptRow.{KeptRow}
@@ -13,20 +18,7 @@ use Rattle.reduced_form.specs.Eliminated.{ArePivots, entries_at, free_places, nu
 pub some_not_none : {X : Type 0} (x : X) → Some x ≡ None → ⊥
 some_not_none x e = cc
 
-pub option_cases : {X : Type 0} (o : Option X) → (o ≡ None) ⊎ ((x : X) × (o ≡ Some x))
-option_cases None = inl refl
-option_cases (Some x) = inr (x, refl)
-
 -- ---- a list with one more
-pub last_at : {X : Type 0} (d : X) (xs : List X) (y : X) → get_or (xs ++ y ∷ []) (length xs) d ≡ y
-last_at d [] y = refl
-last_at d (x ∷ xs) y = last_at d xs y
-
-pub front_at : {X : Type 0} (d : X) (xs ys : List X) (i : ℕ) → i < length xs → get_or (xs ++ ys) i d ≡ get_or xs i d
-front_at d [] ys i h = absurd (omega arith)
-front_at d (x ∷ xs) ys zero h = refl
-front_at d (x ∷ xs) ys (suc i) h = front_at d xs ys i (omega arith)
-
 pub map_more : {X Y : Type 0} (f : X → Y) (xs : List X) (i : ℕ) (x : X) → i < length xs → x ≡ get_or xs i x → map f (take (i + 1) xs) ≡ map f (take i xs) ++ f x ∷ []
 map_more f xs i x h e = ap (λ n. map f (take n xs)) (add-one i) ∙ go f xs i x h e
   where
@@ -131,13 +123,13 @@ module _ (at : List (Option ℕ)) where
   place_numbered (suc n) k h e = elim (cases_eq k n) [
     | inl q ↦
         ap (λ l. get_or l (number_at at k) 0) (places_free n (ap (teller at) (sym q) ∙ e))
-        ∙ ap (λ x. get_or (free_places at n ++ n ∷ []) (number_at at x) 0) q ∙ last_at 0 (free_places at n) n ∙ sym q
+        ∙ ap (λ x. get_or (free_places at n ++ n ∷ []) (number_at at x) 0) q ∙ get_or_push (free_places at n) n 0 (length (free_places at n)) refl ∙ sym q
     | inr q ↦
         let low : k < n = omega (arith, h, q) in
         elim (option_cases (teller at n)) [
           | inl z ↦
               ap (λ l. get_or l (number_at at k) 0) (places_free n z)
-              ∙ front_at 0 (free_places at n) (n ∷ []) (number_at at k) (number_less k n low e) ∙ place_numbered n k low e
+              ∙ get_or_append_left (free_places at n) (n ∷ []) 0 (number_at at k) (number_less k n low e) ∙ place_numbered n k low e
           | inr z ↦ ap (λ l. get_or l (number_at at k) 0) (places_told n z.0 z.1) ∙ place_numbered n k low e
         ]
   ]
@@ -170,7 +162,7 @@ module _ (at : List (Option ℕ)) where
               let b = p.below in
               record {
                 place = p.place;
-                is = ap (λ xs. get_or xs i 0) (places_free n z) ∙ front_at 0 (free_places at n) (n ∷ []) i l ∙ p.is;
+                is = ap (λ xs. get_or xs i 0) (places_free n z) ∙ get_or_append_left (free_places at n) (n ∷ []) 0 i l ∙ p.is;
                 below = omega (arith, b);
                 untold = p.untold;
                 number = p.number;
@@ -179,7 +171,7 @@ module _ (at : List (Option ℕ)) where
               let same : i ≡ number_at at n = omega (arith, l, h, long) in
               record {
                 place = n;
-                is = ap (λ xs. get_or xs i 0) (places_free n z) ∙ ap (λ j. get_or (free_places at n ++ n ∷ []) j 0) same ∙ last_at 0 (free_places at n) n;
+                is = ap (λ xs. get_or xs i 0) (places_free n z) ∙ ap (λ j. get_or (free_places at n ++ n ∷ []) j 0) same ∙ get_or_push (free_places at n) n 0 (length (free_places at n)) refl;
                 below = omega arith;
                 untold = z;
                 number = sym same;

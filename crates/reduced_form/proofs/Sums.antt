@@ -1,27 +1,32 @@
 -- The sums of kept rows, by their places, and the values of terms.
+--   pivots_apart, is_pivot_at, pivot_within    pivots
+--   IsSumAt, sum_at, length-sums, sums_solved, solved_sums, sums_agree    sums
+--   entries_value, told_value, entry_proper, told_ranges    values of terms
 use Rattle.std.proofs.Common.{◌≡◌, ℕ, zero, suc, ◌<◌, true, false, List, [], ◌∷◌, length, get_or, map, refl, ap, sym, ◌∙◌, subst, arith, inl, inr}
 use Rattle.std.specs.Prelude.{Option, Some, None}
 use Rattle.std.proofs.lemmas.Bool.{cases_eq}
+use Rattle.sign_moves.proofs.SignLaws.{signed_zero}
+use Rattle.list_laws.proofs.Members.{each_map}
+use Rattle.number_laws.proofs.Sameness.{one_not_zero}
 use lib.IntN.{negsuc}
 use Rattle.exact_frac.proofs.Overs.{over-neg}
 use Rattle.exact_frac.proofs.Parts.{neg-held, numerator}
-use Rattle.number_laws.proofs.NumberLaws.{num_mul-add, num_mul-zero, num_mul_assoc}
+use Rattle.number_laws.proofs.NumberLaws.{num_mul-add, num_mul_assoc}
 use Rattle.tensor_defs.specs.declared.Sign.{Sign}
 use Rattle.tensor_defs.specs.declared.Sign.TheVariants.{Plus, Minus}
 use Rattle.tensor_defs.specs.Elimination.{Kept}
 use Rattle.tensor_defs.specs.Lists.{Each}
-use Rattle.tensor_defs.specs.Number.{Number, add, mul, neg, num_zero, value_of, whole}
+use Rattle.tensor_defs.specs.Number.{Number, add, mul, neg, value_of, whole}
 use Rattle.tensor_defs.specs.Table.{IsProper, sum_terms}
 use Rattle.sign_moves.specs.Signs.{signed}
-use Rattle.sparse_rows.specs.Free.{is_pivot}
+use Rattle.sparse_rows.specs.Sums.{is_pivot}
 use Rattle.sparse_rows.specs.Rows.{IsEntry, IsRow}
 use Rattle.sparse_rows.specs.Solutions.{AllApart, AreApart, IsKeptWithin, IsLeading, Solve, lines_of}
 use Rattle.sparse_rows.specs.Sums.{AreSolved, sum_entries}
 use Rattle.sparse_rows.specs.declared.entry.Entry.{Entry as SparseEntry}
 use Rattle.sparse_rows.specs.declared.entry.PivotSum.{PivotSum}
-use Rattle.sparse_rows.proofs.Lines.{each_map}
 use Rattle.sparse_rows.proofs.Merging.{neg-not_zero}
-use Rattle.sparse_rows.proofs.Tables.{one_not_zero, pivot-other, pivot-own}
+use Rattle.sparse_rows.proofs.Pivots.{pivot-other, pivot-own}
 use Rattle.reduced_form.specs.Forms.{term_of}
 use Rattle.reduced_form.specs.Eliminated.{AreNumbers, ArePivots, AreTold, entries_at, entry_term, pivot_at, signed_fraction, told_by}
 use Rattle.reduced_form.proofs.FormLaws.{unit_value}
@@ -91,13 +96,9 @@ sums_agree [] t v h = refl
 sums_agree (e ∷ es) t v h = λ i. add (mul (value_of e.value) (h.0 i)) (sums_agree es t v h.1 i)
 
 -- ---- values of terms
-signed_none : (s : Sign) → signed s num_zero ≡ num_zero
-signed_none Plus = refl
-signed_none Minus = num_mul-zero (whole (negsuc 0))
-
 pub entries_value : (numbers : List ℕ) (s : Sign) (es : List SparseEntry) → IsRow es → (v : ℕ → Number) →
     sum_terms (map term_of (map (entry_term numbers s) es)) v ≡ signed s (sum_entries es (λ u. v (get_or numbers u 0)))
-entries_value numbers s [] r v = sym (signed_none s)
+entries_value numbers s [] r v = sym (signed_zero s)
 entries_value numbers Plus (e ∷ es) r v = ap (add (mul (value_of e.value) (v (get_or numbers e.unknown 0)))) (entries_value numbers Plus es r.2 v)
 entries_value numbers Minus (e ∷ es) r v =
     let x = v (get_or numbers e.unknown 0) in

@@ -1,10 +1,17 @@
 -- The unknowns of an elimination, and its rows by their places.
-use Rattle.std.proofs.Common.{◌≡◌, ◌≢◌, ℕ, zero, suc, ◌+◌, ◌^◌, ◌<◌, ◌≤◌, true, false, List, [], ◌∷◌, ◌++◌, cond, take, add-one, length, get_or, map, refl, ap, sym, ◌∙◌, subst, arith, inl, inr, nat_eq}
-use Rattle.std.specs.Prelude.{Some, Contains, IsTrue, nat_lt, unsigned_abs}
-use Rattle.std.proofs.lemmas.Bool.{cases_lt, cases_eq}
-use Rattle.std.proofs.lemmas.Bool.Decides.{nat_tests}
+--   entry_of, entries_of    rows of whole numbers as rows of fractions
+--   system_made, index_list, small, in_n, number_is, IsPlaced    the unknowns, by their places
+--   sparse_more    growth
+use Rattle.std.proofs.Common.{[], ◌≡◌, ◌≢◌, ℕ, zero, suc, ◌+◌, ◌^◌, ◌<◌, ◌≤◌, true, List, ◌∷◌, ◌++◌, cond, take, add-one, length, get_or, map, refl, ap, sym, ◌∙◌, subst, arith, inl, inr, nat_eq}
+use Rattle.std.specs.Prelude.{Some, Contains, IsTrue, unsigned_abs}
+use Rattle.std.proofs.lemmas.Bool.{cases_lt, cases_eq, eq-eqb, ne_eqb, lt-ltb, le-ltb}
 use Rattle.std.proofs.lemmas.List.{get_or-map, length-map}
-use Rattle.exact_frac.proofs.Overs.{over-whole}
+use Rattle.std.proofs.lemmas.Option.{none-some, same_Some}
+use Rattle.constraint_rows.proofs.GatherLaws.{order_total}
+use Rattle.list_laws.proofs.Lists.{option_cases}
+use Rattle.list_laws.proofs.Rising.{rising_get, rising_same}
+use Rattle.list_laws.proofs.Members.{each_get}
+use Rattle.number_laws.proofs.Fractions.{over-whole}
 use Rattle.tensor_defs.specs.declared.Sign.{Sign}
 use Rattle.tensor_defs.specs.declared.Sign.TheVariants.{Plus}
 use Rattle.tensor_defs.specs.Elimination.{AreUnknowns, GrowsFrom, Kept}
@@ -12,7 +19,6 @@ use Rattle.tensor_defs.specs.Lists.{Each, IsRising}
 use Rattle.tensor_defs.specs.Number.{Number, add, mul, num_one, num_zero, whole, limit}
 use Rattle.tensor_defs.specs.Tensor.{Index, Tensor, component_number, index_of}
 use Rattle.tensor_laws.proofs.ComponentNumbers.{length-index_of, number-index_of}
-use Rattle.tensor_laws.proofs.Unique.{none_some, some_same}
 use Rattle.sign_moves.specs.declared.classes.Entry.{Entry}
 use Rattle.sign_moves.specs.Classes.{first_at, sign_at}
 use Rattle.sign_moves.specs.Signs.{signed}
@@ -35,22 +41,8 @@ use Rattle.sparse_rows.proofs.PivotSums.{dot-entries}
 use Rattle.reduced_form.specs.Forms.{ArePlaces, IsFreeUpTo, free_at}
 use Rattle.reduced_form.specs.Eliminated.{AreSparse, CanPlace, IsSparse, IsSystem, whole_of, wholes}
 use Rattle.reduced_form.specs.Solving.{line_at, lines_at}
-use Rattle.axis_laws.proofs.OneCarrier.{rising_same, same_members}
-use Rattle.reduced_form.proofs.FormLaws.{each_get, rising_get}
-use Rattle.reduced_form.proofs.FreeLaws.{class_open, class_some, orders_total}
-use Rattle.reduced_form.proofs.Numbering.{option_cases}
-
-test_same : (u k : ℕ) → u ≡ k → nat_eq u k ≡ true
-test_same u k e = grind (arith, nat_tests)
-
-test_other : (u k : ℕ) → u ≢ k → nat_eq u k ≡ false
-test_other u k h = grind (arith, nat_tests)
-
-pub less_is : (k n : ℕ) → k < n → nat_lt k n ≡ true
-less_is k n h = grind (arith, nat_tests)
-
-pub less_not : (k n : ℕ) → n ≤ k → nat_lt k n ≡ false
-less_not k n h = grind (arith, nat_tests)
+use Rattle.axis_laws.proofs.OneCarrier.{same_members}
+use Rattle.reduced_form.proofs.FreeLaws.{class_open, class_some}
 
 -- ---- rows of whole numbers as rows of fractions
 abbrev pub entry_of : List ℕ → Part → SparseEntry
@@ -69,11 +61,11 @@ whole_line_is places (p ∷ ps) u = λ i. add (whole_part_is places p u i) (whol
 
 part_own : (p : Part) (c : ℕ) → c ≡ p.component → part_at p c ≡ whole p.number
 unfolding part_at
-part_own p c e = ap (λ b. cond b (whole p.number) num_zero) (test_same c p.component e)
+part_own p c e = ap (λ b. cond b (whole p.number) num_zero) (eq-eqb c p.component e)
 
 part_other : (p : Part) (c : ℕ) → c ≢ p.component → part_at p c ≡ num_zero
 unfolding part_at
-part_other p c e = ap (λ b. cond b (whole p.number) num_zero) (test_other c p.component e)
+part_other p c e = ap (λ b. cond b (whole p.number) num_zero) (ne_eqb c p.component e)
 
 -- ---- the unknowns, by their places
 pub system_made : {n r : ℕ} {o : Ordering} {es : List Entry} {us us' places : List ℕ} → n ≡ 3 ^ r → AreSound n (before_at r o) es → IsFreeUpTo n (before_at r o) es us n → us' ≡ us → ArePlaces n us' places (length us') → IsSystem n r o es us places
@@ -139,7 +131,7 @@ module _ {n r : ℕ} {o : Ordering} {es : List Entry} {us places : List ℕ} (sy
   -- the places of components rise with them
   pub places_rise : (c d : ℕ) → c < n → IsOwn es c → d < n → IsOwn es d → before_at r o c d ≡ true → place c < place d
   places_rise c d h p l q b =
-      let total = orders_total n r o sys.size in
+      let total = order_total n r sys.size o in
       let at_c = placed_own c h p in
       let at_d = placed_own d l q in
       elim (cases_lt (place c) (place d)) as (λ _. place c < place d) [
@@ -196,14 +188,14 @@ module _ {n r : ℕ} {o : Ordering} {es : List Entry} {us places : List ℕ} (sy
     | inl h ↦
         line_unknown ps a b k h
         ∙ ap (word.row_at ps) (sym (number_is (free_at us k) (unknown_below k h)) ∙ ap component_number (sym (index_at k h)))
-        ∙ ap (λ t. cond t (word.row_at ps (component_number (get_or (index_list r us) k []))) num_zero) (sym (less_is k (length (index_list r us)) (subst (λ (m : ℕ). k < m) (sym long) h)))
+        ∙ ap (λ t. cond t (word.row_at ps (component_number (get_or (index_list r us) k []))) num_zero) (sym (lt-ltb k (length (index_list r us)) (subst (λ (m : ℕ). k < m) (sym long) h)))
     | inr h ↦
         coeff-below (entries_of places ps) k (wider k (entries_of places ps) h (within_n ps a b))
-        ∙ ap (λ t. cond t (word.row_at ps (component_number (get_or (index_list r us) k []))) num_zero) (sym (less_not k (length (index_list r us)) (subst (λ (m : ℕ). m ≤ k) (sym long) h)))
+        ∙ ap (λ t. cond t (word.row_at ps (component_number (get_or (index_list r us) k []))) num_zero) (sym (le-ltb k (length (index_list r us)) (subst (λ (m : ℕ). m ≤ k) (sym long) h)))
   ]
 
   pub line_within : (ps : List Part) → IsWithin (length us) (line_at (index_list r us) ps)
-  line_within ps k h = ap (λ t. cond t (word.row_at ps (component_number (get_or (index_list r us) k []))) num_zero) (less_not k (length (index_list r us)) (subst (λ (m : ℕ). m ≤ k) (sym long) h))
+  line_within ps k h = ap (λ t. cond t (word.row_at ps (component_number (get_or (index_list r us) k []))) num_zero) (le-ltb k (length (index_list r us)) (subst (λ (m : ℕ). m ≤ k) (sym long) h))
 
   line_path : (ps : List Part) → AreParts n ps → Each (λ p. IsOwn es p.component) ps → coeff (entries_of places ps) ≡ line_at (index_list r us) ps
   line_path ps a b = λ i u. line_is ps a b u i
@@ -275,11 +267,11 @@ module _ {n r : ℕ} {o : Ordering} {es : List Entry} {us places : List ℕ} (sy
 
       holds : (c : Index) → length c ≡ r → carrier_of r es c ≡ Some (c, num_one) → Contains (index_list r us) c
       holds c l e = elim (option_cases (class_at es (component_number c))) [
-        | inl z ↦ absurd (none_some (c, num_one) (sym (ap (carried_to r) z) ∙ e))
+        | inl z ↦ absurd (none-some (c, num_one) (sym (ap (carried_to r) z) ∙ e))
         | inr z ↦
             let d = z.0.0 in
             let s = z.0.1 in
-            let told = some_same (index_of r d, signed s num_one) (c, num_one) (sym (ap (carried_to r) z.1) ∙ e) in
+            let told = same_Some (index_of r d, signed s num_one) (c, num_one) (sym (ap (carried_to r) z.1) ∙ e) in
             let p = placed_first (component_number c) d s (in_n (component_number c) (component_below_at r c l)) z.1 in (
               place d,
               subst (λ x. place d < x) (sym long) p.within,
@@ -290,7 +282,7 @@ module _ {n r : ℕ} {o : Ordering} {es : List Entry} {us places : List ℕ} (sy
   pub one_unknowns : (vs : List Index) → AreUnknowns r (before_of o) (carrier_of r es) vs → vs ≡ index_list r us
   one_unknowns vs h =
       let rep = carrier_of r es in
-      rising_same r (before_of o) (orders_are_orders r o) vs (index_list r us) h.rising are_unknowns.rising
+      rising_same (before_of o) (orders_are_orders r o).irreflexive (orders_are_orders r o).transitive vs (index_list r us) h.rising are_unknowns.rising
       (same_members r (before_of o) rep rep vs (index_list r us) (λ c l. refl) h are_unknowns)
       (same_members r (before_of o) rep rep (index_list r us) vs (λ c l. refl) are_unknowns h)
 

@@ -1,31 +1,35 @@
 -- The lines of all components, by their numbers.
-use Rattle.std.proofs.Common.{◌≡◌, ℕ, zero, suc, ◌+◌, ◌*◌, ◌/◌, ◌%◌, ◌^◌, ◌<◌, ◌≤◌, Bool, true, false, cond, nat_eq, List, [], ◌∷◌, ◌++◌, map, length, get_or, refl, ap, sym, ◌∙◌, arith, subst, length-append}
+--   lines_add, lines_same, all_lines    lines of components by their numbers
+--   has_found, has_absent    whether a component is among the free ones
+--   sum_whole, named_term, text_at, sum_grown, sum_done    sums
+--   name_grown, name_longer, name_done    names
+--   terms_named, free_line, sum_line    lines
+--   grown_twice, lines_start, lines_grown    lists that have grown
+use Rattle.std.proofs.Common.{◌≡◌, ℕ, zero, suc, ◌+◌, ◌*◌, ◌^◌, ◌<◌, ◌≤◌, true, false, List, [], ◌∷◌, ◌++◌, map, length, get_or, refl, ap, sym, ◌∙◌, arith, subst, length-append}
 use Rattle.std.specs.List.{flat_map}
-use Rattle.std.specs.Prelude.{if◌then◌else◌, codes, take}
+use Rattle.std.specs.Prelude.{codes, take}
 use Rattle.std.proofs.Math.Nat.{pow-suc}
 use Rattle.std.proofs.lemmas.Grind.{flat_map-append}
-use Rattle.std.proofs.lemmas.List.{append_assoc, length-map}
-use Rattle.std.proofs.lemmas.Nat.{div-mul-add, mod-mul-add}
+use Rattle.std.proofs.lemmas.List.{append_assoc, length-map, append-nil, take_all}
+use Rattle.std.proofs.lemmas.Bool.{false_from_ne_true}
+use Rattle.list_laws.proofs.Tests.{either_left, either_right, either_none}
+use Rattle.tensor_laws.proofs.Indices.{same_own, same_told}
 use Rattle.tensor_defs.specs.Lists.{Each}
 use Rattle.tensor_defs.specs.Operation.{Axis, x1, x2, x3}
 use Rattle.tensor_defs.specs.Tensor.{Index, axis_at, component_number, digit, index_of, indices, same_index}
-use Rattle.tensor_laws.proofs.ComponentNumbers.{number-index_of}
+use Rattle.tensor_laws.proofs.ComponentNumbers.{number-index_of, index_at}
 use Rattle.text_defs.specs.AnswerTexts.{component_line, component_name, digits_text, free_names, has_index, named, rational, row_text}
 use Rattle.text_defs.specs.NumberTexts.{NamedTerm, joined, later_terms, sum_text, term_text}
 use Rattle.reduced_form.specs.declared.forms.Term.{Term}
 use Rattle.reduced_form.specs.Forms.{FormValue, form_table, free_at, row_at, term_of}
 use Rattle.reduced_form.specs.Texts.{IsLonger, lines_upto, named_terms, placed, sum_from}
 
-append_none : {X : Type 0} (xs : List X) → xs ++ [] ≡ xs
-append_none [] = refl
-append_none (x ∷ xs) = ap (λ ys. x ∷ ys) (append_none xs)
-
 -- ---- lines of components by their numbers
 pub lines_add : (f : ℕ → List ℕ) (m n : ℕ) → lines_upto f (m + n) ≡ lines_upto f m ++ lines_upto (λ c. f (m + c)) n
 unfolding lines_upto
 lines_add f m zero =
     let same : m + zero ≡ m = omega arith in
-    ap (lines_upto f) same ∙ sym (append_none (lines_upto f m))
+    ap (lines_upto f) same ∙ sym (append-nil (lines_upto f m))
 lines_add f m (suc n) =
     let next : m + suc n ≡ suc (m + n) = omega arith in
     ap (lines_upto f) next ∙ ap (λ x. x ++ f (m + n)) (lines_add f m n)
@@ -40,12 +44,6 @@ flat_mapped : (f : Index → List ℕ) (i : Axis) (xs : List Index) → flat_map
 flat_mapped f i [] = refl
 flat_mapped f i (x ∷ xs) = ap (λ y. f (i ∷ x) ++ y) (flat_mapped f i xs)
 
-index_at : (r a n c : ℕ) → c < 3 ^ r → n ≡ a * 3 ^ r + c → index_of (suc r) n ≡ axis_at a ∷ index_of r c
-index_at r a n c h e =
-    let q : n / 3 ^ r ≡ a = ap (λ x. x / 3 ^ r) e ∙ div-mul-add a (3 ^ r) c h in
-    let m : n % 3 ^ r ≡ c = ap (λ x. x % 3 ^ r) e ∙ mod-mul-add a (3 ^ r) c h in
-    λ i. axis_at (q i) ∷ index_of r (m i)
-
 third : (r : ℕ) (f : Index → List ℕ) (a : ℕ) (at : ℕ → ℕ) → ((c : ℕ) → at c ≡ a * 3 ^ r + c) →
     lines_upto (λ c. f (index_of (suc r) (at c))) (3 ^ r) ≡ lines_upto (λ c. f (axis_at a ∷ index_of r c)) (3 ^ r)
 third r f a at e = lines_same _ _ (3 ^ r) (λ c h. ap f (index_at r a (at c) c h (e c)))
@@ -55,7 +53,7 @@ unfolding lines_upto
 lines_one f = refl
 
 pub all_lines : (r : ℕ) (f : Index → List ℕ) → lines_upto (λ c. f (index_of r c)) (3 ^ r) ≡ flat_map f (indices r)
-all_lines zero f = lines_one (λ c. f (index_of 0 c)) ∙ sym (append_none (f []))
+all_lines zero f = lines_one (λ c. f (index_of 0 c)) ∙ sym (append-nil (f []))
 all_lines (suc r) f =
     let N = 3 ^ r in
     let g : ℕ → List ℕ = λ c. f (index_of (suc r) c) in
@@ -74,75 +72,21 @@ all_lines (suc r) f =
     ∙ (λ i. flat_mapped f x1 (indices r) i ++ (flat_mapped f x2 (indices r) i ++ flat_mapped f x3 (indices r) i)))
 
 -- ---- whether a component is among the free ones
-both : (a b : Bool) → cond a b false ≡ true → (a ≡ true) × (b ≡ true)
-both true b e = (refl, e)
-both false b e = cc
-
-digits_tell : (i j : Axis) → nat_eq (digit i) (digit j) ≡ true → i ≡ j
-digits_tell x1 x1 e = refl
-digits_tell x1 x2 e = cc
-digits_tell x1 x3 e = cc
-digits_tell x2 x1 e = cc
-digits_tell x2 x2 e = refl
-digits_tell x2 x3 e = cc
-digits_tell x3 x1 e = cc
-digits_tell x3 x2 e = cc
-digits_tell x3 x3 e = refl
-
-same_own : (is : Index) → same_index is is ≡ true
-same_own [] = refl
-same_own (x1 ∷ is) = same_own is
-same_own (x2 ∷ is) = same_own is
-same_own (x3 ∷ is) = same_own is
-
-same_told : (is js : Index) → same_index is js ≡ true → is ≡ js
-same_told [] [] e = refl
-same_told [] (j ∷ js) e = cc
-same_told (i ∷ is) [] e = cc
-same_told (i ∷ is) (j ∷ js) e =
-    let p = both (nat_eq (digit i) (digit j)) (same_index is js) e in
-    λ n. digits_tell i j p.0 n ∷ same_told is js p.1 n
-
--- a test, or what is found later
-either : Bool → Bool → Bool
-either b y = if b then true else y
-
-either_here : (b y : Bool) → b ≡ true → either b y ≡ true
-unfolding either
-either_here true y e = refl
-either_here false y e = cc
-
-either_later : (b y : Bool) → y ≡ true → either b y ≡ true
-unfolding either
-either_later true y e = refl
-either_later false y e = e
-
-either_none : (b y : Bool) → b ≡ false → y ≡ false → either b y ≡ false
-unfolding either
-either_none true y e f = cc
-either_none false y e f = f
-
-not_true : (b : Bool) → (b ≡ true → ⊥) → b ≡ false
-not_true true h = absurd (h refl)
-not_true false h = refl
-
 pub has_found : (r c : ℕ) (free : List ℕ) (k : ℕ) → k < length free → free_at free k ≡ c → has_index (map (index_of r) free) (index_of r c) ≡ true
-unfolding either
 has_found r c [] k l e = absurd (omega arith)
 has_found r c (x ∷ free) zero l e =
-    either_here (same_index (index_of r x) (index_of r c)) (has_index (map (index_of r) free) (index_of r c))
+    either_left (same_index (index_of r x) (index_of r c)) (has_index (map (index_of r) free) (index_of r c))
     (ap (λ y. same_index (index_of r y) (index_of r c)) e ∙ same_own (index_of r c))
 has_found r c (x ∷ free) (suc k) l e =
-    either_later (same_index (index_of r x) (index_of r c)) (has_index (map (index_of r) free) (index_of r c))
+    either_right (same_index (index_of r x) (index_of r c)) (has_index (map (index_of r) free) (index_of r c))
     (has_found r c free k (omega arith) e)
 
 pub has_absent : (r c : ℕ) (free : List ℕ) → c < 3 ^ r → ((k : ℕ) → k < length free → free_at free k < 3 ^ r) →
     ((k : ℕ) → k < length free → free_at free k ≡ c → ⊥) → has_index (map (index_of r) free) (index_of r c) ≡ false
-unfolding either
 has_absent r c [] h below away = refl
 has_absent r c (x ∷ free) h below away =
     either_none (same_index (index_of r x) (index_of r c)) (has_index (map (index_of r) free) (index_of r c))
-    (not_true (same_index (index_of r x) (index_of r c)) (λ e. away 0 (omega arith)
+    (false_from_ne_true (same_index (index_of r x) (index_of r c)) (λ e. away 0 (omega arith)
     (sym (number-index_of r x (below 0 (omega arith))) ∙ ap component_number (same_told (index_of r x) (index_of r c) e) ∙ number-index_of r c h)))
     (has_absent r c free h (λ k l. below (suc k) (omega arith)) (λ k l. away (suc k) (omega arith)))
 
@@ -167,7 +111,7 @@ sum_more : (r : ℕ) (f : FormValue) (n : ℕ) (row : List Term) (p : ℕ) (t : 
 sum_more r f n [] p t l e = absurd (omega arith)
 sum_more r f n (x ∷ row) zero t l e =
     let same : n ≡ n + zero = omega arith in
-    append_none (placed n (text_at r f x)) ∙ (λ i. placed (same i) (text_at r f (sym e i)))
+    append-nil (placed n (text_at r f x)) ∙ (λ i. placed (same i) (text_at r f (sym e i)))
 sum_more r f n (x ∷ row) (suc p) t l e =
     let place : suc n + p ≡ n + suc p = omega arith in
     ap (λ y. placed n (text_at r f x) ++ y) (sum_more r f (suc n) row p t (omega arith) e)
@@ -187,16 +131,10 @@ sum_grown r f row p t old text out new l e is was grown =
     ∙ ap (λ x. old ++ x) (sym (sum_more r f 0 row p t l e))
     ∙ ap (λ k. old ++ sum_from 0 (named_terms r f (take k row))) next
 
-pub take_whole : {X : Type 0} (xs : List X) (n : ℕ) → length xs ≤ n → take n xs ≡ xs
-take_whole [] zero h = refl
-take_whole [] (suc n) h = refl
-take_whole (x ∷ xs) zero h = absurd (omega arith)
-take_whole (x ∷ xs) (suc n) h = ap (λ ys. x ∷ ys) (take_whole xs n (omega arith))
-
 pub sum_done : (r : ℕ) (f : FormValue) (row : List Term) (p : ℕ) → 0 < length row → length row ≤ p →
     sum_from 0 (named_terms r f (take p row)) ≡ sum_text (named_terms r f row)
 sum_done r f row p some end =
-    ap (λ xs. sum_from 0 (named_terms r f xs)) (take_whole row p end)
+    ap (λ xs. sum_from 0 (named_terms r f xs)) (take_all p row end)
     ∙ sum_whole (named_terms r f row) (subst (λ n. 0 < n) (sym (length-map row (named_term r f))) some)
 
 -- ---- names
@@ -217,7 +155,7 @@ pub name_longer : (old new : List ℕ) (x n : ℕ) → length old ≡ n → new 
 name_longer old new x n h e = ap length e ∙ length-append old (x ∷ []) ∙ ap (λ k. k + 1) h
 
 pub name_done : (is : Index) (p : ℕ) → length is ≤ p → 84 ∷ digits_text (map digit (take p is)) ≡ component_name is
-name_done is p end = ap (λ xs. 84 ∷ digits_text (map digit xs)) (take_whole is p end)
+name_done is p end = ap (λ xs. 84 ∷ digits_text (map digit xs)) (take_all p is end)
 
 -- ---- lines
 name_read : (r : ℕ) (free : List ℕ) (k : ℕ) → k < length free →
@@ -276,7 +214,7 @@ grown_twice {a} h k = record {
 
 pub lines_start : (f : ℕ → List ℕ) (old : List ℕ) → old ≡ old ++ lines_upto f 0
 unfolding lines_upto
-lines_start f old = sym (append_none old)
+lines_start f old = sym (append-nil old)
 
 pub lines_grown : (f : ℕ → List ℕ) (n : ℕ) (old out new : List ℕ) → out ≡ old ++ lines_upto f n → new ≡ out ++ f n → new ≡ old ++ lines_upto f (n + 1)
 unfolding lines_upto

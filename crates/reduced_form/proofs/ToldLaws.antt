@@ -1,15 +1,20 @@
 -- The table that kept rows give runs through the component lists that classes and rows leave.
+--   told_made, made_ranges, eliminated_fits, err_same    the terms name no later free component
 use Rattle.std.proofs.Common.{◌≡◌, ℕ, ◌^◌, ◌<◌, ◌≤◌, true, false, List, [], ◌∷◌, length, get_or, map, refl, ap, sym, ◌∙◌, subst, arith, inl, inr}
 use Rattle.std.specs.Prelude.{Err, IfErr, IsErrAnd, IsTrue, None, Ok, Option, Result, Some, slice_get}
-use Rattle.std.proofs.lemmas.Bool.{cases_lt}
+use Rattle.std.proofs.lemmas.Bool.{cases_lt, lt-ltb, true≢false}
 use Rattle.std.proofs.lemmas.List.{get_or-map, ext_get_or, length-map}
+use Rattle.constraint_rows.proofs.GatherLaws.{order_total}
+use Rattle.list_laws.proofs.Lists.{option_cases}
+use Rattle.list_laws.proofs.Rising.{rising_get}
+use Rattle.list_laws.proofs.Members.{each_map, each_get, each_both}
 use Rattle.tensor_defs.specs.declared.Sign.{Sign}
 use Rattle.tensor_defs.specs.declared.Sign.TheVariants.{Plus}
 use Rattle.tensor_defs.specs.Elimination.{Kept}
 use Rattle.tensor_defs.specs.Lists.{Each, IsRising}
 use Rattle.tensor_defs.specs.Number.{Number, num_zero}
 use Rattle.tensor_defs.specs.Table as defs
-use Rattle.tensor_defs.specs.Table.{AreTerms, IsChoice, IsProper, Table, alone, chosen, places_rise, sum_terms, value_at}
+use Rattle.tensor_defs.specs.Table.{AreTerms, IsProper, Table, alone, chosen, places_rise, sum_terms, value_at}
 use Rattle.tensor_defs.specs.Tensor.{Index, Tensor, component_number, index_of}
 use Rattle.tensor_laws.proofs.ComponentNumbers.{length-index_of}
 use Rattle.sign_moves.specs.declared.classes.Entry.{Entry}
@@ -19,7 +24,7 @@ use Rattle.tensor_rank.specs.Orders.{Ordering, before_at, before_of}
 use Rattle.constraint_rows.specs.Classes.{class_at}
 use Rattle.constraint_rows.specs.WordRows.{IsGiven, IsOwn}
 use Rattle.constraint_rows.specs.declared.rows.Part.{Part}
-use Rattle.sparse_rows.specs.Free.{is_pivot}
+use Rattle.sparse_rows.specs.Sums.{is_pivot}
 use Rattle.sparse_rows.specs.KeptRows.{IsEliminated, kepts, lines}
 use Rattle.sparse_rows.specs.Rows.{Above, IsRow}
 use Rattle.sparse_rows.specs.Solutions.{IsKeptWithin, IsReduced, Solve, lines_of}
@@ -28,23 +33,14 @@ use Rattle.sparse_rows.specs.declared.entry.Entry.{Entry as SparseEntry}
 use Rattle.sparse_rows.specs.declared.entry.KeptRow.{KeptRow}
 use Rattle.sparse_rows.specs.declared.entry.PivotSum.{PivotSum}
 use Rattle.sparse_rows.specs.declared.entry.Row.{Row}
-use Rattle.sparse_rows.proofs.Lines.{each_map}
 use Rattle.reduced_form.specs.declared.forms.Term.{Term}
 use Rattle.reduced_form.specs.Forms.{FormValue, IsForm, form_table, free_at, row_at, term_of}
 use Rattle.reduced_form.specs.Eliminated.{AreNumbers, ArePivots, AreSparse, AreTold, IsSystem, IsToldForm, class_row, entries_at, entry_term, free_places, number_at, pivot_at, teller, terms_told, told_by}
 use Rattle.reduced_form.specs.Solving.{FitsSet, IsSolution, lines_at}
-use Rattle.reduced_form.proofs.FormLaws.{each_get, get_told, rising_get, unit_proper, unit_value}
-use Rattle.reduced_form.proofs.FreeLaws.{orders_total}
-use Rattle.reduced_form.proofs.Numbering.{free_place, length-kepts, number_few, number_less, number_rises, option_cases, place_numbered}
+use Rattle.reduced_form.proofs.FormLaws.{get_told, unit_proper, unit_value}
+use Rattle.reduced_form.proofs.Numbering.{free_place, length-kepts, number_few, number_less, number_rises, place_numbered}
 use Rattle.reduced_form.proofs.Sums.{IsSumAt, told_ranges, entries_value, entry_proper, is_pivot_at, pivot_within, pivots_apart, solved_sums, sum_at, sums_agree, sums_solved, told_value}
-use Rattle.reduced_form.proofs.Systems.{in_n, kept_within, index_list, less_is, lines_same, number_is, parts_of, place_unknown, placed_first, solve_sums, sums_solve, unknown_below, unknown_own}
-
-true_false : true ≡ false → ⊥
-true_false e = cc
-
-each_both : {X : Type 0} (P Q R : X → Type 0) → ((x : X) → P x → Q x → R x) → (xs : List X) → Each P xs → Each Q xs → Each R xs
-each_both P Q R f [] p q = tt
-each_both P Q R f (x ∷ xs) p q = (f x p.0 q.0, each_both P Q R f xs p.1 q.1)
+use Rattle.reduced_form.proofs.Systems.{in_n, kept_within, index_list, lines_same, number_is, parts_of, place_unknown, placed_first, solve_sums, sums_solve, unknown_below, unknown_own}
 
 -- what holds by number holds of each index
 by_number : (r : ℕ) (P : Index → Type 0) → ((c : ℕ) → c < 3 ^ r → P (index_of r c)) → (is : Index) → length is ≡ r → P is
@@ -69,7 +65,7 @@ module _ {n r : ℕ} {o : Ordering} {es : List Entry} {us places : List ℕ} (sy
     | inl e ↦ e
     | inr e ↦
         let p = form.pivots.pivot u e.0 e.1 in
-        absurd (true_false (sym (ap (is_pivot κs) (sym p.1) ∙ is_pivot_at κs e.0 p.0) ∙ h))
+        absurd (true≢false (sym (ap (is_pivot κs) (sym p.1) ∙ is_pivot_at κs e.0 p.0) ∙ h))
   ]
 
   pub record IsFreeUnknown (k : ℕ) : Type 0 where
@@ -226,7 +222,7 @@ module _ {n r : ℕ} {o : Ordering} {es : List Entry} {us places : List ℕ} (sy
     where
       later : (ys : List SparseEntry) → Above x.unknown ys → Each (λ e. IsFreeUnknown e.unknown) ys → Each (λ t. IsTrue (places_rise (term_of (entry_term form.numbers s x)) t)) (map term_of (map (entry_term form.numbers s) ys))
       later [] a g = tt
-      later (y ∷ ys) a g = (less_is (num x.unknown) (num y.unknown) (num_less x.unknown y.unknown free.0 g.0 a.0), later ys a.1 g.1)
+      later (y ∷ ys) a g = (lt-ltb (num x.unknown) (num y.unknown) (num_less x.unknown y.unknown free.0 g.0 a.0), later ys a.1 g.1)
 
   entries_proper : (s : Sign) (xs : List SparseEntry) → IsRow xs → Each IsProper (map term_of (map (entry_term form.numbers s) xs))
   entries_proper s [] row = tt
@@ -290,16 +286,16 @@ module _ {n r : ℕ} {o : Ordering} {es : List Entry} {us places : List ℕ} (sy
 
   not_earlier : (c d : ℕ) (s : Sign) → c < n → class_at es c ≡ Some (d, s) → (k : ℕ) → IsFreeUnknown k → k ≤ place d → (x : Index) → slice_get the_table.free (num k) ≡ Some x → IsTrue (before_of o (index_of r c) x) → ⊥
   not_earlier c d s h e k free le x told b =
-      let total = orders_total n r o sys.size in
+      let total = order_total n r sys.size o in
       let at_d = placed_first sys c d s h e in
       let not_less : before_at r o c d ≡ false = sys.sound.first c d s h e in
       let less : before_at r o c (free_at us k) ≡ true = ap (before_of o (index_of r c)) (sym (free_is k x free told)) ∙ b in
       elim (cases_lt k (place d)) as (λ _. ⊥) [
         | inl l ↦
-            true_false (sym (total.transitive c (free_at us k) d less (ap (before_at r o (free_at us k)) (sym at_d.back) ∙ sys.unknowns.rising k (place d) l at_d.within)) ∙ not_less)
+            true≢false (sym (total.transitive c (free_at us k) d less (ap (before_at r o (free_at us k)) (sym at_d.back) ∙ sys.unknowns.rising k (place d) l at_d.within)) ∙ not_less)
         | inr l ↦
             let same : k ≡ place d = omega (arith, l, le) in
-            true_false (sym (ap (before_at r o c) (sym at_d.back ∙ ap (free_at us) (sym same)) ∙ less) ∙ not_less)
+            true≢false (sym (ap (before_at r o c) (sym at_d.back ∙ ap (free_at us) (sym same)) ∙ less) ∙ not_less)
       ]
 
   row_earlier : (x : Index) (c : ℕ) → c < n → Each (λ t. slice_get the_table.free t.place ≡ Some x → ¬ IsTrue (before_of o (index_of r c) x)) (the_table.terms (index_of r c))

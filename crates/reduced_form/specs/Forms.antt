@@ -3,6 +3,9 @@
 --   IsForm          as many rows as components, and terms name free components
 --   term_of, form_table    the term and the table of the definitions
 --   unit_term       1 or -1 times the free component at a place
+--   HasUnits        each factor is 1 or -1
+--   IsWellFormed    terms by rising places, in lowest terms, none 0, which name free components
+--   IsUnitRow, HasUnitRows    no term, or one with the factor 1 or -1; the same of each row
 --   IsFormOf        the table that classes give: free are the first components of the classes that don't vanish
 --   IsFreeUpTo, ArePlaces, row_of    the steps of making it
 use Rattle.std.specs.Prelude.{◌≡◌, ℕ, ◌<◌, ◌≤◌, Bool, true, false, List, [], ◌∷◌, length, get_or, map}
@@ -11,7 +14,7 @@ use lib.IntN.{ℤ, pos, negsuc}
 use Rattle.tensor_defs.specs.Lists.{Each}
 use Rattle.tensor_defs.specs.Number.{Fraction}
 use Rattle.tensor_defs.specs.Table as defs
-use Rattle.tensor_defs.specs.Tensor.{component_number, index_of}
+use Rattle.tensor_defs.specs.Tensor.{Index, component_number, index_of}
 use Rattle.tensor_defs.specs.declared.Sign.{Sign}
 use Rattle.tensor_defs.specs.declared.Sign.TheVariants.{Plus, Minus}
 use Rattle.sign_moves.specs.declared.classes.Entry.{Entry}
@@ -54,6 +57,23 @@ unit_fraction s = record { num = sign_whole s; den = 1 }
 
 abbrev pub unit_term : ℕ → Sign → Term
 unit_term k s = record { free = k; factor = unit_fraction s }
+
+-- each factor is 1 or -1
+abbrev pub HasUnits : ℕ → FormValue → Type 0
+HasUnits n f = (c : ℕ) → c < n → Each (λ t. (s : Sign) × (t.factor ≡ unit_fraction s)) (row_at f.rows c)
+
+-- the terms of each component are well formed, and name free components
+abbrev pub IsWellFormed : ℕ → defs.Table → Type 0
+IsWellFormed r a =
+    (c : Index) → length c ≡ r → defs.AreTerms (a.terms c) × Each (λ t. t.place < length a.free) (a.terms c)
+
+abbrev pub IsUnitRow : List Term → Type 0
+IsUnitRow [] = Unit {0}
+IsUnitRow (t ∷ ts) = (ts ≡ []) × (s : Sign) × (t.factor ≡ unit_fraction s)
+
+-- below n
+abbrev pub HasUnitRows : ℕ → FormValue → Type 0
+HasUnitRows n f = (c : ℕ) → c < n → IsUnitRow (row_at f.rows c)
 
 pub record IsFormOf (n : ℕ) (before : ℕ → ℕ → Bool) (es : List Entry) (f : FormValue) : Type 0 where
   pub rising : (i k : ℕ) → i < k → k < length f.free → before (free_at f.free i) (free_at f.free k) ≡ true

@@ -33,6 +33,7 @@ fn same_row(one: &[Term], other: &[Term]) -> bool
 fn same_rows<R: Rank>(one: &Form<R>, other: &Form<R>) -> bool
     ensures { IsTrue result ↔ (one.now.rows ≡ other.now.rows) }
 {
+    // fields that are read bring the invariants into the proof
     let _one = &one.rows;
     let _other = &other.rows;
     for number in 0..R::LEN {

@@ -113,8 +113,10 @@ fn kept_rows(alloc: Global, rows: &[SparseRow]) -> Result<Vec<KeptRow>, SolveFau
     }
 }
 
-/// The table of classes and rows, whose components are those of the rank.
-pub(crate) fn eliminate_checked<R: Rank>(
+/// The table of the component lists that classes and rows leave: zero where a class vanishes, else the sign times the
+/// representative, and each row adds up to zero. The free components rise in the order, and each other component is
+/// told by free ones that aren't later. `TooLarge` comes exactly where the elimination on these rows grows.
+pub fn eliminate<R: Rank>(
     alloc: Global,
     classes: &Classes<R>,
     rows: &[Row<R>],
@@ -133,22 +135,4 @@ pub(crate) fn eliminate_checked<R: Rank>(
     let kept = kept_rows(alloc, &sparse)?;
     let form = told_form(alloc, classes, &unknowns, &places, &kept)?;
     Ok(form)
-}
-
-/// The table of the component lists that classes and rows leave: zero where a class vanishes, else the sign times the
-/// representative, and each row adds up to zero. The free components rise in the order, and each other component is
-/// told by free ones that aren't later. `TooLarge` comes exactly where the elimination on these rows grows.
-pub fn eliminate<R: Rank>(
-    alloc: Global,
-    classes: &Classes<R>,
-    rows: &[Row<R>],
-    order: &Order<R>,
-) -> Result<Form<R>, SolveFault>
-    requires sound { AreSound R.LEN (before_at R.R order.now) classes.now }
-    requires rows { Each (IsGiven (before_at R.R order.now) classes.now) rows.now }
-    ensures fits { IfOk result (λ f. FitsSet R.R (IsSolution R.R classes.now rows.now) (before_of order.now) (form_table R.R f)) }
-    ensures calm { IfOk result (λ _. (us : List Index) → AreUnknowns R.R (before_of order.now) (carrier_of R.R classes.now) us → GrowsFrom [] (lines_at us rows.now) → ⊥) }
-    ensures grows { IfErr result (λ e. e ≡ SolveFault.TooLarge → (us : List Index) → AreUnknowns R.R (before_of order.now) (carrier_of R.R classes.now) us → GrowsFrom [] (lines_at us rows.now)) }
-{
-    eliminate_checked(alloc, classes, rows, order)
 }

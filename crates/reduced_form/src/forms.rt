@@ -1,4 +1,5 @@
-ghost use Rattle.std.specs.Prelude.{◌≡◌, ◌<◌, ℕ, length};
+//! Tables of free components and of the terms of every component.
+ghost use Rattle.std.specs.Prelude.{◌≡◌, ◌≤◌, ◌<◌, ℕ, length};
 ghost use Rattle.reduced_form.specs.Forms.{free_at, row_at};
 
 use exact_frac::Frac;
@@ -44,7 +45,8 @@ impl<R: Rank> Model for Form<R> {
 impl<R: Rank> Form<R> {
     /// The number of free components.
     pub fn free_count(&self) -> usize
-        ensures { result ≡ length self.now.free }
+        ensures is { result ≡ length self.now.free }
+        ensures few { result ≤ R.LEN }
     {
         self.free.len()
     }

@@ -9,22 +9,30 @@ use constraint_rows::Classes;
 use std::alloc::Global;
 use tensor_rank::{Comp, Order, Rank};
 
-/// Where a component belongs among free components that rise in an order.
+/// Where a component belongs among free components that rise in an order: behind the last one, or else where halving
+/// finds the first that comes after it.
 fn place_for<R: Rank>(free: &[u16], order: &Order<R>, c: usize) -> usize
     requires component { c < R.LEN }
     requires below { (k : ℕ) → k < length free.now → free_at free.now k < R.LEN }
+    requires rising { (i k : ℕ) → i < k → k < length free.now → before_at R.R order.now (free_at free.now i) (free_at free.now k) ≡ true }
     ensures within { result ≤ length free.now }
     ensures after { (k : ℕ) → result ≤ k → k < length free.now → before_at R.R order.now c (free_at free.now k) ≡ true }
     ensures before { (k : ℕ) → k + 1 ≡ result → before_at R.R order.now c (free_at free.now k) ≡ false }
 {
-    let mut place = free.len();
-    while place > 0 {
-        if !order.before(Comp::at(c), Comp::at(free[place - 1] as usize)) {
-            return place;
-        }
-        place -= 1;
+    let mut low = 0;
+    let mut high = free.len();
+    if high > 0 && !order.before(Comp::at(c), Comp::at(free[high - 1] as usize)) {
+        return high;
     }
-    place
+    while low < high {
+        let middle = low + (high - low) / 2;
+        if order.before(Comp::at(c), Comp::at(free[middle] as usize)) {
+            high = middle;
+        } else {
+            low = middle + 1;
+        }
+    }
+    low
 }
 
 /// Takes a component among the free ones where it is the first of a class that doesn't vanish.

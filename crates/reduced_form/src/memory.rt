@@ -1,3 +1,4 @@
+//! Want of memory, and why constraints have no table.
 use std::alloc::{AllocError, AllocFailed};
 use thiserror::Error;
 

@@ -1,3 +1,4 @@
+//! The table of a group and a symbol, by its classes or by the elimination of rows.
 ghost use Rattle.std.specs.Prelude.{◌≡◌, ℕ, ◌<◌, IfErr, IfOk};
 ghost use Rattle.tensor_defs.specs.Elimination.{Grows};
 ghost use Rattle.tensor_defs.specs.Frames.{AllOf, IsFramed, IsPlain};
@@ -7,10 +8,10 @@ ghost use Rattle.magnetic_groups.specs.Sets.{In};
 ghost use Rattle.sign_moves.specs.Firsts.{AreSettled};
 ghost use Rattle.tensor_rank.specs.Orders.{before_at, before_of};
 ghost use Rattle.tensor_rank.specs.Shapes.{IsShapeOf};
-ghost use Rattle.reduced_form.specs.Forms.{IsFormOf, form_table};
+ghost use Rattle.reduced_form.specs.Forms.{HasUnitRows, HasUnits, IsFormOf, IsWellFormed, form_table};
 ghost use Rattle.reduced_form.specs.declared.memory.SolveFault.{SolveFault};
 
-use crate::eliminating::eliminate_checked;
+use crate::eliminating::eliminate;
 use crate::forms::Form;
 use crate::free::{free_components, places_of};
 use crate::memory::{NoMemory, SolveFault};
@@ -49,7 +50,10 @@ fn plain_form<R: Rank>(
     order: &Order<R>,
 ) -> Result<Form<R>, NoMemory>
     requires { AllOf (In group.now) IsPlain }
-    ensures { IfOk result (λ f. (j : JahnSymbol) → IsShapeOf j R.R shape.now → Fits j (In group.now) (before_of order.now) (form_table R.R f)) }
+    ensures fits { IfOk result (λ f. (j : JahnSymbol) → IsShapeOf j R.R shape.now → Fits j (In group.now) (before_of order.now) (form_table R.R f)) }
+    ensures formed { IfOk result (λ f. IsWellFormed R.R (form_table R.R f)) }
+    ensures units { IfOk result (HasUnitRows R.LEN) }
+    ensures factors { IfOk result (HasUnits R.LEN) }
 {
     let classes = plain_classes(alloc, group, shape, order)?;
     form_of_classes(alloc, &classes, order)
@@ -67,19 +71,22 @@ fn axis_form<R: Rank>(
     ensures fits { IfOk result (λ f. (j : JahnSymbol) → IsShapeOf j R.R shape.now → Fits j (In group.now) (before_of order.now) (form_table R.R f)) }
     ensures calm { IfOk result (λ _. (j : JahnSymbol) → IsShapeOf j R.R shape.now → Grows j (In group.now) (before_of order.now) → ⊥) }
     ensures grows { IfErr result (λ e. e ≡ SolveFault.TooLarge → (j : JahnSymbol) → IsShapeOf j R.R shape.now → Grows j (In group.now) (before_of order.now)) }
+    ensures formed { IfOk result (λ f. IsWellFormed R.R (form_table R.R f)) }
 {
     rows_decide_invariance();
     one_elimination();
+    // what the length tells of the group is for the proof
     let _elements = group.len();
     let classes = axis_classes(alloc, group, shape, order)?;
     let rows = rows_of_words(alloc, &classes, order)?;
-    let form = eliminate_checked(alloc, &classes, &rows, order)?;
+    let form = eliminate(alloc, &classes, &rows, order)?;
     Ok(form)
 }
 
 /// The component table of the tensors of a symbol that a framed group leaves unchanged: its free components rise in the
 /// order, and each other component is told by free ones that aren't later. `TooLarge` comes exactly where the group
-/// isn't all plain and the elimination on the rows of its words grows.
+/// isn't all plain and the elimination on the rows of its words grows. Under a group that is all plain each factor is 1
+/// or -1.
 pub fn solve<R: Rank>(
     alloc: Global,
     group: &Group,
@@ -87,9 +94,13 @@ pub fn solve<R: Rank>(
     order: &Order<R>,
 ) -> Result<Form<R>, SolveFault>
     requires { IsFramed (In group.now) }
+    ensures factors { IfOk result (λ f. AllOf (In group.now) IsPlain → HasUnits R.LEN f) }
     ensures fits { IfOk result (λ f. (j : JahnSymbol) → IsShapeOf j R.R shape.now → Fits j (In group.now) (before_of order.now) (form_table R.R f)) }
     ensures calm { IfOk result (λ _. (j : JahnSymbol) → IsShapeOf j R.R shape.now → Grows j (In group.now) (before_of order.now) → ⊥) }
     ensures grows { IfErr result (λ e. e ≡ SolveFault.TooLarge → (j : JahnSymbol) → IsShapeOf j R.R shape.now → Grows j (In group.now) (before_of order.now)) }
+    ensures formed { IfOk result (λ f. IsWellFormed R.R (form_table R.R f)) }
+    ensures plain { IfErr result (λ e. e ≡ SolveFault.TooLarge → ¬ AllOf (In group.now) IsPlain) }
+    ensures units { IfOk result (λ f. AllOf (In group.now) IsPlain → HasUnitRows R.LEN f) }
 {
     if group.is_all_plain() {
         let form = plain_form(alloc, group, shape, order)?;

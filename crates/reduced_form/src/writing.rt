@@ -16,7 +16,7 @@ use std::alloc::Global;
 use tensor_rank::{Comp, Rank};
 
 /// Appends bytes, or leaves the list as it was.
-fn append_to(out: &mut Vec<u8>, bytes: &[u8]) -> Result<(), NoMemory>
+pub fn append_to(out: &mut Vec<u8>, bytes: &[u8]) -> Result<(), NoMemory>
     ensures ok { OnOk result (out.new.items ≡ out.old.items ++ bytes.now) }
     ensures longer { IsLonger out.old.items out.new.items }
     ensures capacity { vec_capacity out.old ≤ vec_capacity out.new }
@@ -66,7 +66,7 @@ fn size_of_factor(factor: &Frac) -> Frac
 }
 
 /// Appends the factor of a name: nothing at 1, - at -1, else its text and *.
-fn push_factor(text: &mut SmallVec<u8, 64>, alloc: Global, factor: &Frac)
+pub fn push_factor(text: &mut SmallVec<u8, 64>, alloc: Global, factor: &Frac)
     requires { HasRoomFor text.old 41 }
     ensures items { text.new.items ≡ text.old.items ++ factor_text (rational factor.now) }
     ensures len { small_vec_len text.new ≤ small_vec_len text.old + 41 }
@@ -105,7 +105,7 @@ fn takes_plus(text: &[u8], place: usize) -> bool
 }
 
 /// Appends a term at a place of a sum: the first one as it is, a later one with + before it unless it begins with -.
-fn write_term(text: &[u8], place: usize, out: &mut Vec<u8>) -> Result<(), NoMemory>
+pub fn write_term(text: &[u8], place: usize, out: &mut Vec<u8>) -> Result<(), NoMemory>
     ensures ok { OnOk result (out.new.items ≡ out.old.items ++ placed place text.now) }
     ensures longer { IsLonger out.old.items out.new.items }
     ensures capacity { vec_capacity out.old ≤ vec_capacity out.new }

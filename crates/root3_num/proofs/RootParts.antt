@@ -1,12 +1,13 @@
 -- Numbers a + b√3: they have one pair of fractions; sums and products by parts.
 use Rattle.std.proofs.Common.{◌≡◌, ℕ, ◌*◌, ◌<◌, refl, ap, sym, ◌∙◌}
+use Rattle.number_laws.proofs.Fractions.{zero_times}
 use lib.IntN.{ℤ, pos, ◌+ℤ◌, ◌*ℤ◌, +ℤ_idr, +ℤ_comm}
 use Rattle.tensor_defs.specs.IntRing.{positive_mul, mul-zero_ℤ, mul-cancel_ℤ, ring_ℤ}
 use Rattle.tensor_defs.specs.Number.{Number, Same, number_of, same_numbers, add, mul, add_at, mul_at, num_zero, whole, half_of, root_3, over, value_of}
 use Rattle.tensor_defs.specs.Number.{HasParts}
 use Rattle.number_laws.proofs.Sameness.{numbers_are_same_lem}
 use Rattle.number_laws.proofs.NumberLaws.{ring, num_zero-mul, num_add-zero}
-use Rattle.exact_frac.proofs.Overs.{zero_times, over-at, over-same}
+use Rattle.exact_frac.proofs.Overs.{over-at, over-same}
 
 -- b√3
 root-at : (q : ℤ) (n : ℕ) (h : 0 < n) → mul (over q n) root_3 ≡ number_of (record { p = pos 0; q = q; n = n; positive = h })

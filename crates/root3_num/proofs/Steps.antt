@@ -1,4 +1,8 @@
 -- When a sum or a product of numbers a + b√3 is refused.
+--   held-root    a pair of fractions that are held, as a number
+--   AStepReaches    one of the steps of a product reaches the limit
+--   err-sum    a refusal, whatever its error
+--   roots-same    whether two pairs are one number
 use Rattle.std.proofs.Common.{◌≡◌, ◌⊎◌, inl, inr, refl, sym, ◌∙◌, subst, lit<, Result, Ok, Err}
 use Rattle.std.proofs.lemmas.Bool.{false≢true}
 use Rattle.std.specs.Result.{IsErr}

@@ -1,4 +1,4 @@
-// The type `Root3`, and its operations.
+//! The type `Root3`, and its operations.
 use crate::text::text_of;
 use exact_frac::Frac;
 use smallvec::SmallVec;
@@ -57,6 +57,7 @@ impl Root3 {
         ensures held { AreHeld self.now }
         ensures value { IsHeldRoot (value_of_root self.now) self.now }
     {
+        // a field that is read brings the invariant into the proof
         let _ = &self.a;
     }
 

@@ -1,4 +1,4 @@
-// Worked values of numbers a + b√3.
+//! Worked values of numbers a + b√3.
 use super::*;
 use exact_frac::Frac;
 use std::test::Fail;

@@ -1,4 +1,4 @@
-// The text of a number a + b√3.
+//! The text of a number a + b√3.
 ghost use Rattle.std.specs.Prelude.{◌≡◌, ◌≤◌, ◌+◌, ◌++◌, length};
 ghost use Rattle.smallvec.specs.SmallVec.{HasRoomFor, small_vec_len};
 ghost use Rattle.text_defs.specs.NumberTexts.{is_zero, is_one, is_negative, without_sign, root_text, before_root, root3_text};

@@ -1,16 +1,17 @@
 -- How a table of first components is made from a table of classes.
+--   best_stays    c is no better than what is kept
+--   best_taken    c is taken
 use Rattle.std.proofs.Common.{◌≡◌, ◌≢◌, ℕ, ◌+◌, ◌<◌, Bool, true, false, List, length, get_or, set, arith, ap, sym, ◌∙◌, subst, inl, inr}
 use Rattle.std.specs.Prelude.{slice_set}
 use Rattle.std.proofs.lemmas.List.{length-set, get_or-set_other}
 use Rattle.std.proofs.lemmas.Grind.{get_or-set_at}
 use Rattle.std.proofs.lemmas.Bool.Decides.{eqb_tells}
-use Rattle.std.proofs.lemmas.Bool.{cases_lt}
+use Rattle.std.proofs.lemmas.Bool.{cases_lt, cases_Bool}
 use Rattle.sign_moves.specs.declared.classes.Entry.{Entry}
 use Rattle.sign_moves.specs.Signs.{times, times-times, times_self}
 use Rattle.sign_moves.specs.Moves.{Moves, IsReversible}
 use Rattle.sign_moves.specs.Classes.{first_at, sign_at, vanishes_at, IsClassTable}
 use Rattle.sign_moves.proofs.ClassLaws.{same_first, reached_first, zero_of_vanishing, class_reaches}
-use Rattle.sign_moves.proofs.EngineLaws.{bool_cases}
 use Rattle.sign_moves.specs.Best.{best_at, IsBestUpTo, AreLinks}
 use Rattle.sign_moves.specs.Firsts.{IsStrict, IsFirstTable}
 
@@ -78,7 +79,7 @@ best_taken {n} {before} {classes} {best} {c} strict h below better i x root insi
     }
   where
     not_before : (e b : ℕ) → before e b ≡ false → before c b ≡ true → before e c ≡ false
-    not_before e b old new = elim (bool_cases (before e c)) as (λ _. before e c ≡ false) [
+    not_before e b old new = elim (cases_Bool (before e c)) as (λ _. before e c ≡ false) [
       | inl p ↦ let clash : before e b ≡ true = strict.transitive e c b p new in absurd (cc)
       | inr p ↦ p
     ]

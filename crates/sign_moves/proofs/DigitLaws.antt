@@ -1,4 +1,6 @@
 -- Rows of steps by index digits.
+--   step_small    the numbers stay small
+--   spread_more    the steps of one component more
 use Rattle.std.proofs.Common.{◌≡◌, ℕ, ◌+◌, ◌*◌, ◌/◌, ◌%◌, ◌^◌, ◌<◌, ◌≤◌, List, [], ◌∷◌, ◌++◌, zero, suc, add-one, length, get_or, arith, ap, sym, ◌∙◌, refl, inl, inr}
 use Rattle.std.proofs.Common.{length-append, lit≤}
 use Rattle.std.proofs.Math.Nat.{pow-succ'}

@@ -1,5 +1,13 @@
 -- The steps of making a table of classes.
-use Rattle.std.proofs.Common.{◌≡◌, ◌≢◌, ℕ, ◌+◌, ◌<◌, ◌≤◌, Bool, true, false, List, [], ◌∷◌, ◌++◌, arith, ap, sym, ◌∙◌, ◌⊎◌, refl, subst, length, set, le_refl, inl, inr}
+--   single_walked    no walk has begun
+--   at_set    what holds of the new entry and of the old ones holds of each entry
+--   closed_grows    what is closed stays closed
+--   step_marks    the class is marked where the sign differs
+--   visit_ends    a component that each move has carried waits no more
+--   walk_ends    a walk whose queue is at its end
+--   walk_begins    a walk begins with a component that no walk has come to
+--   walk_passes    a component that a walk has come to
+use Rattle.std.proofs.Common.{[], ◌≡◌, ◌≢◌, ℕ, ◌+◌, ◌<◌, ◌≤◌, true, false, List, ◌∷◌, ◌++◌, arith, ap, sym, ◌∙◌, ◌⊎◌, refl, subst, length, set, le_refl, inl, inr}
 use Rattle.std.specs.Prelude.{slice_set}
 use Rattle.std.proofs.Common.{length-append}
 use Rattle.std.proofs.lemmas.List.{length-set, get_or-set_other, get_or_push, get_or_append_left}
@@ -7,7 +15,7 @@ use Rattle.std.proofs.lemmas.List.Sums.{sum_by-set}
 use Rattle.std.proofs.lemmas.Grind.{get_or-set_at}
 use Rattle.std.proofs.lemmas.Bool.Decides.{eqb_tells}
 use Rattle.std.proofs.Math.ListN.{get_or-eq_default}
-use Rattle.std.proofs.lemmas.Bool.{cases_lt}
+use Rattle.std.proofs.lemmas.Bool.{cases_lt, cases_Bool}
 use Rattle.sign_moves.specs.declared.classes.Entry.{Entry}
 use Rattle.tensor_defs.specs.declared.Sign.{Sign}
 use Rattle.tensor_defs.specs.declared.Sign.TheVariants.{Plus}
@@ -16,10 +24,6 @@ use Rattle.sign_moves.specs.Moves.{Moves, IsReversible, Reaches, stay, move}
 use Rattle.sign_moves.specs.Classes.{entry_at, first_at, sign_at, vanishes_at, total_of, IsSound, IsClassTable}
 use Rattle.sign_moves.specs.Walks.{item_at, Lengthens, IsClosed, IsClosedAt, HasClash, IsPending, IsWalk, IsWalked, Grows, IsStep}
 use Rattle.sign_moves.proofs.MoveLaws.{reaches_join, reaches_home}
-
-pub bool_cases : (b : Bool) → (b ≡ true) ⊎ (b ≡ false)
-bool_cases true = inl refl
-bool_cases false = inr refl
 
 -- no walk has begun
 pub single_walked : (n : ℕ) (m : Moves) (es : List Entry) → length es ≡ n → ((k : ℕ) → k < n → entry_at es k ≡ record { first = k; sign = Plus; vanishes = false }) → IsWalked n m es 0
@@ -96,7 +100,7 @@ closed_grows {m} {r} {a} {b} {k} {c} f here h =
       falls = omega arith;
       clean = λ v.
           let before : vanishes_at a (first_at a c) ≡ false =
-          elim (bool_cases (vanishes_at a (first_at a c))) as (λ _. vanishes_at a (first_at a c) ≡ false) [
+          elim (cases_Bool (vanishes_at a (first_at a c))) as (λ _. vanishes_at a (first_at a c) ≡ false) [
             | inl p ↦
                 let still : vanishes_at b (first_at b c) ≡ true = ap (vanishes_at b) same ∙ f.vanishes (first_at a c) p in
                 absurd (cc)

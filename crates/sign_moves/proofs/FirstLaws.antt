@@ -1,5 +1,15 @@
 -- What tables of classes and of first components say of the component lists that moves keep.
+--   CanSpread
+--       what can be spread from the components f over all others: moves keep v and f, and where v is false change s
+--       by their signs
+--   spread    the list that is 0 where v is true, and elsewhere the number at f with the sign s
+--   spread_kept    what is spread is kept
+--   not_forced    some kept list is not zero where v is false
+--   class_zero, first_of_class, tables_tell    tables of classes
+--   first_can, path_first, path_sign, path_vanishes, first_same, firsts_settled, firsts_tell
+--       tables of first components
 use Rattle.std.proofs.Common.{◌≡◌, ℕ, ◌<◌, Bool, true, false, List, ap, sym, ◌∙◌, refl, inl, inr}
+use Rattle.std.proofs.lemmas.Bool.{cases_Bool}
 use Rattle.tensor_defs.specs.Number.{Number, num_zero, num_one}
 use Rattle.sign_moves.specs.declared.classes.Entry.{Entry}
 use Rattle.tensor_defs.specs.declared.Sign.{Sign}
@@ -11,7 +21,6 @@ use Rattle.sign_moves.specs.Laws.{TablesTell, FirstsTell}
 use Rattle.sign_moves.proofs.SignLaws.{signed-signed, signed_zero, sign_not_zero}
 use Rattle.sign_moves.proofs.MoveLaws.{reached_below, reached_same}
 use Rattle.sign_moves.proofs.ClassLaws.{same_first, reached_first, zero_of_vanishing, class_reaches, class_same}
-use Rattle.sign_moves.proofs.EngineLaws.{bool_cases}
 
 -- what can be spread from the components f over all others: moves keep v and f, and where v is false change s by their signs
 pub record CanSpread (n : ℕ) (m : Moves) (v : ℕ → Bool) (s : ℕ → Sign) (f : ℕ → ℕ) : Type 0 where
@@ -47,7 +56,7 @@ module _ {n : ℕ} {m : Moves} {v : ℕ → Bool} {s : ℕ → Sign} {f : ℕ �
   -- what is spread is kept
   pub spread_kept : (x : ℕ → Number) → IsKept n m (spread v s f x)
   spread_kept x = record {
-    same = λ k c is below. elim (bool_cases (v c)) as (λ _. spread v s f x c ≡ signed (m.sign k c) (spread v s f x (m.carried k c))) [
+    same = λ k c is below. elim (cases_Bool (v c)) as (λ _. spread v s f x c ≡ signed (m.sign k c) (spread v s f x (m.carried k c))) [
       | inl h ↦ spread_vanishing v s f x c h ∙ sym (ap (signed (m.sign k c)) (spread_vanishing v s f x (m.carried k c) (can.follows k c is below ∙ h)) ∙ signed_zero (m.sign k c))
       | inr h ↦
           spread_open v s f x c h
@@ -71,7 +80,7 @@ module _ (n : ℕ) (m : Moves) (es : List Entry) (back : IsReversible n m) (tabl
   }
 
   pub class_zero : (c : ℕ) → c < n → IsForced n m c → vanishes_at es (first_at es c) ≡ true
-  class_zero c h z = elim (bool_cases (vanishes_at es (first_at es c))) as (λ _. vanishes_at es (first_at es c) ≡ true) [
+  class_zero c h z = elim (cases_Bool (vanishes_at es (first_at es c))) as (λ _. vanishes_at es (first_at es c) ≡ true) [
     | inl p ↦ p
     | inr p ↦ absurd (not_forced class_can c p z)
   ]
@@ -126,7 +135,7 @@ module _ (n : ℕ) (m : Moves) (before : ℕ → ℕ → Bool) (es : List Entry)
   }
 
   first_zero : (c : ℕ) → c < n → IsForced n m c → vanishes_at es c ≡ true
-  first_zero c h z = elim (bool_cases (vanishes_at es c)) as (λ _. vanishes_at es c ≡ true) [
+  first_zero c h z = elim (cases_Bool (vanishes_at es c)) as (λ _. vanishes_at es c ≡ true) [
     | inl p ↦ p
     | inr p ↦ absurd (not_forced first_can c p z)
   ]

@@ -1,6 +1,9 @@
 -- The moves of two lists together lead back, and a list is kept by both exactly where each keeps it.
-use Rattle.std.proofs.Common.{◌≡◌, ℕ, ◌+◌, ◌-◌, ◌<◌, ◌≤◌, cond, arith, ap, sym, ◌∙◌, subst, inl, inr}
+use Rattle.std.proofs.Common.{◌≡◌, ℕ, Bool, List, ◌+◌, ◌-◌, ◌<◌, ◌≤◌, cond, arith, ap, sym, ◌∙◌, subst, inl, inr}
 use Rattle.std.proofs.lemmas.Bool.{cases_lt, lt-ltb, le-ltb}
+use Rattle.sign_moves.specs.declared.classes.Entry.{Entry}
+use Rattle.sign_moves.specs.Classes.{first_at, sign_at, vanishes_at}
+use Rattle.sign_moves.specs.Firsts.{IsFirstTable}
 use Rattle.tensor_defs.specs.declared.Sign.{Sign}
 use Rattle.tensor_defs.specs.Number.{Number}
 use Rattle.sign_moves.specs.Signs.{times, signed}
@@ -78,6 +81,24 @@ kept_by_both {n} {a} {b} {t} f g = record {
         let short : k - a.count < b.count = omega arith in
         g.same (k - a.count) c short l ∙ sym (λ i. signed (sign_second a b k c p i) (t (at_second a b k c p i)))
   ];
+}
+
+-- no second moves: the first components are those of the first moves
+pub first_joined : (n : ℕ) (a b : Moves) (before : ℕ → ℕ → Bool) (es : List Entry) → b.count ≡ 0 → IsFirstTable n a before es →
+    IsFirstTable n (joined a b) before es
+first_joined n a b before es none f = record {
+  len = f.len;
+  below = f.below;
+  forced = λ c h v t k. f.forced c h v t (kept_by_first b k);
+  follows = λ k c is h. let l : k < a.count = omega (arith, is, none) in ap (vanishes_at es) (at_first a b k c l) ∙ f.follows k c l h;
+  joins = λ k c is h. let l : k < a.count = omega (arith, is, none) in ap (first_at es) (at_first a b k c l) ∙ f.joins k c l h;
+  clean = λ k c is h v.
+      let l : k < a.count = omega (arith, is, none) in
+      f.clean k c l h v ∙ sym (λ i. times (sign_first a b k c l i) (sign_at es (at_first a b k c l i)));
+  reached = λ c h. ((f.reached c h).0, path_first b (f.reached c h).1);
+  least = f.least;
+  own_first = f.own_first;
+  own_sign = f.own_sign;
 }
 
 -- a list that agrees with a kept one

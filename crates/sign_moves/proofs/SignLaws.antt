@@ -1,9 +1,9 @@
 -- Numbers with signs.
 use Rattle.std.proofs.Common.{◌≡◌, ◌≢◌, refl, ap, sym, ◌∙◌}
 use lib.IntN.{pos}
-use Rattle.tensor_defs.specs.Number.{Number, add, mul, neg, num_zero, num_one, whole, half_of}
+use Rattle.tensor_defs.specs.Number.{Number, add, mul, neg, num_zero, num_one, half_of}
 use Rattle.number_laws.proofs.NumberLaws.{num_mul-zero, num_neg-neg, num_add-neg, num_mul-one, num_one-mul, num_mul-add, num_mul_assoc, two_halves, num_mul_comm}
-use Rattle.number_laws.proofs.Sameness.{numbers_are_same_lem}
+use Rattle.number_laws.proofs.Sameness.{one_not_zero}
 use Rattle.tensor_defs.specs.declared.Sign.{Sign}
 use Rattle.tensor_defs.specs.declared.Sign.TheVariants.{Plus, Minus}
 use Rattle.sign_moves.specs.Signs.{times, signed}
@@ -26,13 +26,6 @@ half_double x =
 -- x = -x tells that x is 0
 pub own_negative : (x : Number) → x ≡ neg x → x ≡ num_zero
 own_negative x e = sym (half_double x) ∙ ap (mul (half_of (pos 1) (pos 0))) (ap (add x) e ∙ num_add-neg x) ∙ num_mul-zero (half_of (pos 1) (pos 0))
-
-pub one_not_zero : num_one ≡ num_zero → ⊥
-unfolding whole
-one_not_zero e = clash ((numbers_are_same_lem _ _).0 e).same_p
-  where
-    clash : pos 1 ≡ pos 0 → ⊥
-    clash e = cc
 
 pub sign_not_zero : (s : Sign) → signed s num_one ≡ num_zero → ⊥
 sign_not_zero Plus e = one_not_zero e

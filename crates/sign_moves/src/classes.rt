@@ -1,3 +1,4 @@
+//! The entries of tables of classes.
 use tensor_defs::Sign;
 
 /// What a table of classes has at a component: the component that stands for its class, the sign with which the

@@ -1,3 +1,4 @@
+//! Where a move carries each component, made digit by digit.
 ghost use Rattle.std.specs.Prelude.{◌≡◌, ℕ, ◌+◌, ◌*◌, ◌<◌, ◌≤◌, IfOk, length};
 ghost use Rattle.sign_moves.specs.Digits.{AreParts, IsDigitRow, IsSpread, joined_step};
 ghost use Rattle.sign_moves.specs.Tabling.{step_at};

@@ -1,3 +1,4 @@
+//! The walk that divides components into classes.
 ghost use Rattle.std.specs.Prelude.{◌≡◌, ℕ, ◌+◌, ◌<◌, ◌≤◌, List, length, IfOk, OnOk};
 ghost use Rattle.sign_moves.specs.Moves.{IsReversible};
 ghost use Rattle.sign_moves.specs.Classes.{IsClassTable};

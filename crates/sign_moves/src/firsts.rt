@@ -1,8 +1,9 @@
+//! The first component of each class in an order.
 ghost use Rattle.std.specs.Prelude.{◌≡◌, ℕ, ◌+◌, ◌<◌, ◌≤◌, IfOk, length, get_or};
 ghost use Rattle.sign_moves.specs.Best.{AreLinks, IsBest, IsBestUpTo, best_at, link_of};
 ghost use Rattle.sign_moves.specs.Classes.{IsClassTable, first_at};
 ghost use Rattle.sign_moves.specs.Firsts.{IsFirstTable, IsStrict};
-ghost use Rattle.sign_moves.specs.Moves.{IsReversible};
+ghost use Rattle.sign_moves.specs.Moves.{IsReversible, Moves};
 
 use crate::classes::Entry;
 use crate::engine::class_table;
@@ -111,6 +112,20 @@ fn links<P: Precedence>(alloc: Global, classes: &[Entry], order: &P) -> Result<V
     Ok(links)
 }
 
+/// The table of first components that a table of classes gives, for whichever moves the classes are made.
+pub fn firsts_of_classes<P: Precedence>(
+    alloc: Global,
+    classes: &[Entry],
+    order: &P,
+) -> Result<Vec<Entry>, NoMemory>
+    requires small { P.size order.now ≤ 729 }
+    requires size { length classes.now ≡ P.size order.now }
+    requires below { (d : ℕ) → d < P.size order.now → first_at classes.now d < P.size order.now }
+    ensures { IfOk result (λ table. (m : Moves) → IsReversible (P.size order.now) m → IsClassTable (P.size order.now) m classes.now → IsFirstTable (P.size order.now) m (P.order order.now) table.items) }
+{
+    links(alloc, classes, order)
+}
+
 /// For each component the first one, in an order, to which moves carry it, with the sign between the two, and
 /// whether each list that the moves keep is zero there.
 pub fn first_table<M: Moves, P: Precedence>(
@@ -124,5 +139,5 @@ pub fn first_table<M: Moves, P: Precedence>(
     ensures { IfOk result (λ table. IsFirstTable (M.size moves.now) (M.moves moves.now) (P.order order.now) table.items) }
 {
     let classes = class_table(alloc, moves)?;
-    links(alloc, &classes, order)
+    firsts_of_classes(alloc, &classes, order)
 }

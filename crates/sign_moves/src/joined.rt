@@ -1,3 +1,4 @@
+//! The moves of two lists as one list.
 ghost use Rattle.std.specs.Prelude.{◌≡◌, ◌+◌, ◌<◌, ◌^◌};
 
 use crate::memory::NoMemory;

@@ -1,3 +1,4 @@
+//! What the tables tell of moves, as the contracts of functions with no parameters.
 ghost use Rattle.sign_moves.specs.Laws.{FirstsTell, JoinedTell, TablesTell};
 
 /// A table of classes tells where each list that the moves keep is zero, and to which components moves carry another.

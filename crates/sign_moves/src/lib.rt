@@ -16,7 +16,7 @@ mod tabled;
 pub use classes::Entry;
 pub use digits::digit_row;
 pub use engine::class_table;
-pub use firsts::{Precedence, first_table};
+pub use firsts::{Precedence, first_table, firsts_of_classes};
 pub use joined::Joined;
 pub use laws::{firsts_tell, joined_tell, tables_tell};
 pub use memory::NoMemory;

@@ -1,3 +1,4 @@
+//! What carries components to one another with signs.
 use crate::memory::NoMemory;
 use crate::tabled::Step;
 use std::alloc::Global;

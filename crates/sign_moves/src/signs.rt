@@ -1,3 +1,4 @@
+//! Signs.
 ghost use Rattle.std.specs.Prelude.{◌≡◌};
 ghost use Rattle.sign_moves.specs.Signs.{times};
 

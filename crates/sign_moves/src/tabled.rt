@@ -1,3 +1,4 @@
+//! Moves with a table of where each component is carried.
 ghost use Rattle.std.specs.Prelude.{◌≡◌, ℕ, ◌<◌, ◌≤◌, IfOk, map};
 ghost use Rattle.sign_moves.specs.Moves.{IsReversible};
 ghost use Rattle.sign_moves.specs.Tabling.{IsStepRow, IsTabled};

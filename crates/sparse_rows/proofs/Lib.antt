@@ -1,5 +1,5 @@
 pub mod Lines
-pub mod Tables
+pub mod Pivots
 pub mod Merging
 pub mod RowSteps
 pub mod Wholes

@@ -1,19 +1,17 @@
 -- Steps of the elimination on lines.
+--   minus_none    what is taken away is 0
+--   dot-minus, dot-less, dot-reduced, dot-zero, dot-scaled, solve-cleared, solve-snoc    solutions
+--   scaled-is, kept_same, scaled-unique    scaling
+--   reduced-keeps, reduced-zero, keep-reduced    each pivot is 1 in its own row and 0 in the others
+--   IsState, state-start, state-skip, new-leading, undo, state-keep ..    the state between two rows
 use Rattle.std.proofs.Common.{◌≡◌, ℕ, zero, suc, ◌⊎◌, ◌↔◌, inl, inr, List, [], ◌∷◌, ◌++◌, refl, ap, sym, ◌∙◌, subst, arith}
 use Rattle.std.proofs.lemmas.Bool.{cases_lt, cases_order}
+use Rattle.list_laws.proofs.Members.{each_map, each_push}
 use Rattle.tensor_defs.specs.Number.{Number, add, mul, neg, num_zero, num_one, whole}
 use Rattle.number_laws.proofs.NumberLaws.{num_mul_assoc, num_mul-add, num_add-zero, num_mul-one, num_mul-zero, num_mul_left_comm, num_one-mul, num_zero-mul, num_add-neg, ring}
 use Rattle.tensor_defs.specs.Elimination.{Line, Kept, minus_times, less, reduced, cleared, IsScaled, IsZeroLine, ReducingGrows, LineGrows, ClearingGrows, GrowsFrom}
 use Rattle.tensor_defs.specs.Lists.{Each}
 use Rattle.sparse_rows.specs.Solutions.{dot, Solve, lines_of, AreApart, AllApart, IsLeading, IsReduced, IsWithin, IsKeptWithin, scaled_by, IsPivot}
-
-pub each_map : {X : Type 0} (P Q : X → Type 0) → ((x : X) → P x → Q x) → (xs : List X) → Each P xs → Each Q xs
-each_map P Q f [] e = tt
-each_map P Q f (x ∷ xs) e = (f x e.0, each_map P Q f xs e.1)
-
-pub each_snoc : {X : Type 0} (P : X → Type 0) (xs : List X) (y : X) → Each P xs → P y → Each P (xs ++ y ∷ [])
-each_snoc P [] y e p = (p, tt)
-each_snoc P (x ∷ xs) y e p = (e.0, each_snoc P xs y e.1 p)
 
 neg_zero : neg num_zero ≡ num_zero
 neg_zero = num_mul-zero (whole _)
@@ -154,11 +152,11 @@ cleared-new new n (κ ∷ κs) z = (record { first = less-own κ.line new n.own;
 
 apart-snoc : (κs : List Kept) (new : Kept) → AllApart κs → Each (λ κ. AreApart κ new) κs → AllApart (κs ++ new ∷ [])
 apart-snoc [] new a e = (tt, tt)
-apart-snoc (κ ∷ κs) new a e = (each_snoc (AreApart κ) κs new a.0 e.0, apart-snoc κs new a.1 e.1)
+apart-snoc (κ ∷ κs) new a e = (each_push (AreApart κ) κs new a.0 e.0, apart-snoc κs new a.1 e.1)
 
 pub keep-reduced : (κs : List Kept) (new : Kept) → IsReduced κs → IsLeading new → Each (λ κ. new.line κ.pivot ≡ num_zero) κs → IsReduced (cleared new κs ++ new ∷ [])
 keep-reduced κs new r n z = record {
-  leading = each_snoc IsLeading (cleared new κs) new (cleared-leading new n κs z r.leading) n;
+  leading = each_push IsLeading (cleared new κs) new (cleared-leading new n κs z r.leading) n;
   apart = apart-snoc (cleared new κs) new (cleared-apart new κs z r.apart) (cleared-new new n κs z);
 }
 
@@ -189,7 +187,7 @@ within-keep : (n : ℕ) (κs : List Kept) (ρ : Line) (p : ℕ) (w : Number) →
 within-keep n κs ρ p w h k r =
     let new = scaled_by (reduced κs ρ) p w in
     let s = within-scaled n (reduced κs ρ) p w h (within-reduced n κs ρ k r) in
-    each_snoc (IsKeptWithin n) (cleared new κs) new (within-cleared n new s.within κs k) s
+    each_push (IsKeptWithin n) (cleared new κs) new (within-cleared n new s.within κs k) s
 
 -- ---- the state between two rows
 pub record IsState (all : List Line) (κs : List Kept) (rest : List Line) : Type 0 where

@@ -1,36 +1,35 @@
 -- Two rows, entry by entry.
-use Rattle.std.proofs.Math.ListN.{drop_of_length-le}
-use Rattle.std.proofs.Common.{length, get_or, drop, drop-cons, add-one, ◌≡◌, ◌≢◌, ℕ, ◌+◌, ◌<◌, ◌≤◌, ◌⊎◌, inl, inr, List, [], ◌∷◌, ◌++◌, refl, ap, sym, ◌∙◌, subst, arith, lit<, nat_eq, true, false, cond}
-use Rattle.std.proofs.lemmas.Bool.{cases_eq}
-use Rattle.std.proofs.lemmas.Bool.Decides.{nat_tests}
+--   coeff-small    each coefficient of a row is 0 or one of its fractions
+--   IsMerging, merge-start, below_head, below_tail, merge-left, merge-right ..
+--       what is left of both rows, and what is made so far
+--   above-at, entry-at, at-left, at-right, heads-at, right-head ..    the steps, at places of both rows
+use Rattle.std.proofs.Common.{length, get_or, drop, ◌≡◌, ◌≢◌, ℕ, ◌+◌, ◌<◌, ◌≤◌, ◌⊎◌, inl, inr, List, [], ◌∷◌, ◌++◌, refl, ap, sym, ◌∙◌, subst, arith, lit<, nat_eq, cond}
+use Rattle.std.proofs.lemmas.Bool.{cases_eq, eq-eqb, ne_eqb}
 use Rattle.tensor_defs.specs.Number.{Number, add, mul, neg, num_zero, whole, ReachesLimit, value_of, Fraction}
 use Rattle.number_laws.proofs.NumberLaws.{num_add-zero, num_zero-add, num_mul-zero, num_add_assoc, num_add_comm, num_neg-neg, ring}
 use Rattle.tensor_defs.specs.Elimination.{Line, minus_times, TimesGrows}
 use Rattle.tensor_defs.specs.Lists.{Each}
-use Rattle.sparse_rows.proofs.Lines.{each_map, each_snoc, minus_none, undo}
+use Rattle.sparse_rows.proofs.Lines.{minus_none, undo}
 use Rattle.exact_frac.specs.Held.{inverse_of, IsHeld, zero_over_one}
 use Rattle.exact_frac.proofs.Parts.{inverse-mul, held-below}
 use Rattle.exact_frac.proofs.Divisors.{gcd-one}
 use Rattle.exact_frac.proofs.Overs.{over-zero}
 use Rattle.sparse_rows.specs.Rows.{part, coeff, Above, IsEntry, IsRow, IsDifference, IsNegative, DifferenceGrows}
 use Rattle.std.specs.Prelude.{Result, Ok, Err, IfErr}
+use Rattle.std.proofs.lemmas.List.{drop_all}
+use Rattle.list_laws.proofs.Lists.{drop_head}
+use Rattle.list_laws.proofs.Members.{each_map, each_push}
 use Rattle.sparse_rows.specs.declared.entry.EliminateFault.{EliminateFault}
 use Rattle.sparse_rows.specs.declared.entry.EliminateFault.TheVariants.{TooLarge}
 use Rattle.sparse_rows.specs.declared.entry.Entry.{Entry}
 
-pub test_same : (u : ℕ) → nat_eq u u ≡ true
-test_same u = grind (arith, nat_tests)
-
-pub test_other : (u k : ℕ) → u ≢ k → nat_eq u k ≡ false
-test_other u k h = grind (arith, nat_tests)
-
 pub part-own : (e : Entry) (u : ℕ) → u ≡ e.unknown → part e u ≡ value_of e.value
 unfolding part
-part-own e u h = ap (λ k. cond (nat_eq k e.unknown) (value_of e.value) num_zero) h ∙ ap (λ b. cond b (value_of e.value) num_zero) (test_same e.unknown)
+part-own e u h = ap (λ k. cond (nat_eq k e.unknown) (value_of e.value) num_zero) h ∙ ap (λ b. cond b (value_of e.value) num_zero) (eq-eqb e.unknown e.unknown refl)
 
 pub part-other : (e : Entry) (u : ℕ) → u ≢ e.unknown → part e u ≡ num_zero
 unfolding part
-part-other e u h = ap (λ b. cond b (value_of e.value) num_zero) (test_other u e.unknown h)
+part-other e u h = ap (λ b. cond b (value_of e.value) num_zero) (ne_eqb u e.unknown h)
 
 pub coeff-above : (es : List Entry) (u : ℕ) → Above u es → coeff es u ≡ num_zero
 coeff-above [] u h = refl
@@ -73,7 +72,7 @@ above_less k m es h = each_map (λ e. m < e.unknown) (λ e. k < e.unknown) (λ e
 
 pub row_snoc : (es : List Entry) (e : Entry) → IsRow es → Each (λ x. x.unknown < e.unknown) es → IsEntry e → IsRow (es ++ e ∷ [])
 row_snoc [] e r b z = (tt, z, tt)
-row_snoc (x ∷ es) e r b z = (each_snoc (λ y. x.unknown < y.unknown) es e r.0 b.0, r.1, row_snoc es e r.2 b.1 z)
+row_snoc (x ∷ es) e r b z = (each_push (λ y. x.unknown < y.unknown) es e r.0 b.0, r.1, row_snoc es e r.2 b.1 z)
 
 -- ---- what is left of both rows, and what is made so far
 pub record IsMerging (ρ : Line) (f : Number) (σ : Line) (A B out : List Entry) : Type 0 where
@@ -108,8 +107,8 @@ merge-left ρ f σ a A B out m h = record {
   row_a = m.row_a.2;
   row_b = m.row_b;
   row_out = row_snoc out a m.row_out (below_head a A out m.below_a) m.row_a.1;
-  below_a = each_snoc (λ e. Above e.unknown A) out a (below_tail a A out m.below_a) m.row_a.0;
-  below_b = each_snoc (λ e. Above e.unknown B) out a m.below_b h;
+  below_a = each_push (λ e. Above e.unknown A) out a (below_tail a A out m.below_a) m.row_a.0;
+  below_b = each_push (λ e. Above e.unknown B) out a m.below_b h;
   left = m.left;
 }
   where
@@ -142,8 +141,8 @@ merge-right ρ f σ b e A B out m h calm p v z = record {
   row_a = m.row_a;
   row_b = m.row_b.2;
   row_out = row_snoc out e m.row_out (subst (λ k. Each (λ x. x.unknown < k) out) (sym p) (below_head b B out m.below_b)) z;
-  below_a = each_snoc (λ x. Above x.unknown A) out e m.below_a (subst (λ k. Above k A) (sym p) h);
-  below_b = each_snoc (λ x. Above x.unknown B) out e (below_tail b B out m.below_b) (subst (λ k. Above k B) (sym p) m.row_b.0);
+  below_a = each_push (λ x. Above x.unknown A) out e m.below_a (subst (λ k. Above k A) (sym p) h);
+  below_b = each_push (λ x. Above x.unknown B) out e (below_tail b B out m.below_b) (subst (λ k. Above k B) (sym p) m.row_b.0);
   left = step_left f σ b B m.row_b.0 m.left calm;
 }
   where
@@ -174,8 +173,8 @@ merge-both ρ f σ a b e A B out m h calm p v z = record {
   row_a = m.row_a.2;
   row_b = m.row_b.2;
   row_out = row_snoc out e m.row_out (subst (λ k. Each (λ x. x.unknown < k) out) (sym p) (below_head a A out m.below_a)) z;
-  below_a = each_snoc (λ x. Above x.unknown A) out e (below_tail a A out m.below_a) (above_at e a A p m.row_a.0);
-  below_b = each_snoc (λ x. Above x.unknown B) out e (below_tail b B out m.below_b) (above_at e b B (p ∙ h) m.row_b.0);
+  below_a = each_push (λ x. Above x.unknown A) out e (below_tail a A out m.below_a) (above_at e a A p m.row_a.0);
+  below_b = each_push (λ x. Above x.unknown B) out e (below_tail b B out m.below_b) (above_at e b B (p ∙ h) m.row_b.0);
   left = step_left f σ b B m.row_b.0 m.left calm;
 }
   where
@@ -238,12 +237,6 @@ mul-not_zero f b l h k e = k (undo (value_of f) (inverse_of f) (value_of b) (inv
 pub neg-not_zero : (x : Number) → x ≢ num_zero → neg x ≢ num_zero
 neg-not_zero x h e = h (sym (num_neg-neg x) ∙ ap neg e ∙ num_mul-zero _)
 
-pub drop-head : (xs : List Entry) (i : ℕ) (x : Entry) → i < length xs → x ≡ get_or xs i x → drop i xs ≡ x ∷ drop (i + 1) xs
-drop-head xs i x h e = drop-cons xs i x h ∙ (λ k. sym e k ∷ drop (sym (add-one i) k) xs)
-
-pub drop-all : (xs : List Entry) (i : ℕ) → length xs ≤ i → drop i xs ≡ []
-drop-all xs i h = drop_of_length-le xs h
-
 pub grow-both : (ρ : Line) (f : Number) (σ : Line) (a b : Entry) (A B out : List Entry) → IsMerging ρ f σ (a ∷ A) (b ∷ B) out → a.unknown ≡ b.unknown → DifferenceGrows f a b → TimesGrows ρ f σ
 grow-both ρ f σ a b A B out m h r = elim r [
   | inl x ↦ grow-product ρ f σ b (a ∷ A) B out m x
@@ -260,26 +253,26 @@ head-above a b B r h = (h, above_less a.unknown b.unknown B h r.0)
 -- ---- the steps, at places of both rows
 pub above-at : (a b : Entry) (xs : List Entry) (j : ℕ) → j < length xs → b ≡ get_or xs j b → IsRow (drop j xs) → a.unknown < b.unknown → Above a.unknown (drop j xs)
 above-at a b xs j h e r k =
-    let d = drop-head xs j b h e in
+    let d = drop_head xs j b h e in
     subst (Above a.unknown) (sym d) (head-above a b (drop (j + 1) xs) (subst IsRow d r) k)
 
 pub entry-at : (b : Entry) (xs : List Entry) (j : ℕ) → j < length xs → b ≡ get_or xs j b → IsRow (drop j xs) → IsEntry b
-entry-at b xs j h e r = (subst IsRow (drop-head xs j b h e) r).1
+entry-at b xs j h e r = (subst IsRow (drop_head xs j b h e) r).1
 
 pub at-left : (ρ : Line) (f : Number) (σ : Line) (xs B out new : List Entry) (i : ℕ) (a : Entry) → IsMerging ρ f σ (drop i xs) B out → i < length xs → a ≡ get_or xs i a → Above a.unknown B → new ≡ out ++ a ∷ [] → IsMerging ρ f σ (drop (i + 1) xs) B new
-at-left ρ f σ xs B out new i a m h e k o = subst (IsMerging ρ f σ (drop (i + 1) xs) B) (sym o) (merge-left ρ f σ a (drop (i + 1) xs) B out (subst (λ A. IsMerging ρ f σ A B out) (drop-head xs i a h e) m) k)
+at-left ρ f σ xs B out new i a m h e k o = subst (IsMerging ρ f σ (drop (i + 1) xs) B) (sym o) (merge-left ρ f σ a (drop (i + 1) xs) B out (subst (λ A. IsMerging ρ f σ A B out) (drop_head xs i a h e) m) k)
 
 pub at-right : (ρ : Line) (f : Number) (σ : Line) (ys A out new : List Entry) (j : ℕ) (b e : Entry) → IsMerging ρ f σ A (drop j ys) out → j < length ys → b ≡ get_or ys j b → Above b.unknown A → IsNegative f b e → new ≡ out ++ e ∷ [] → IsMerging ρ f σ A (drop (j + 1) ys) new
-at-right ρ f σ ys A out new j b e m h p k n o = subst (IsMerging ρ f σ A (drop (j + 1) ys)) (sym o) (merge-right ρ f σ b e A (drop (j + 1) ys) out (subst (λ B. IsMerging ρ f σ A B out) (drop-head ys j b h p) m) k n.calm n.unknown n.value n.entry)
+at-right ρ f σ ys A out new j b e m h p k n o = subst (IsMerging ρ f σ A (drop (j + 1) ys)) (sym o) (merge-right ρ f σ b e A (drop (j + 1) ys) out (subst (λ B. IsMerging ρ f σ A B out) (drop_head ys j b h p) m) k n.calm n.unknown n.value n.entry)
 
 pub heads-at : (ρ : Line) (f : Number) (σ : Line) (xs ys out : List Entry) (i j : ℕ) (a b : Entry) → IsMerging ρ f σ (drop i xs) (drop j ys) out → i < length xs → a ≡ get_or xs i a → j < length ys → b ≡ get_or ys j b → IsMerging ρ f σ (a ∷ drop (i + 1) xs) (b ∷ drop (j + 1) ys) out
-heads-at ρ f σ xs ys out i j a b m h e k p = subst (λ A. IsMerging ρ f σ A (b ∷ drop (j + 1) ys) out) (drop-head xs i a h e) (subst (λ B. IsMerging ρ f σ (drop i xs) B out) (drop-head ys j b k p) m)
+heads-at ρ f σ xs ys out i j a b m h e k p = subst (λ A. IsMerging ρ f σ A (b ∷ drop (j + 1) ys) out) (drop_head xs i a h e) (subst (λ B. IsMerging ρ f σ (drop i xs) B out) (drop_head ys j b k p) m)
 
 pub right-head : (ρ : Line) (f : Number) (σ : Line) (A ys out : List Entry) (j : ℕ) (b : Entry) → IsMerging ρ f σ A (drop j ys) out → j < length ys → b ≡ get_or ys j b → IsMerging ρ f σ A (b ∷ drop (j + 1) ys) out
-right-head ρ f σ A ys out j b m k p = subst (λ B. IsMerging ρ f σ A B out) (drop-head ys j b k p) m
+right-head ρ f σ A ys out j b m k p = subst (λ B. IsMerging ρ f σ A B out) (drop_head ys j b k p) m
 
 pub none-above : (k : ℕ) (xs : List Entry) (i : ℕ) → length xs ≤ i → Above k (drop i xs)
-none-above k xs i h = subst (Above k) (sym (drop-all xs i h)) tt
+none-above k xs i h = subst (Above k) (sym (drop_all i xs h)) tt
 
 pub at-end : (ρ : Line) (f : Number) (σ : Line) (xs ys out : List Entry) (i j : ℕ) → IsMerging ρ f σ (drop i xs) (drop j ys) out → length xs ≤ i → length ys ≤ j → IsDifference ρ f σ out
-at-end ρ f σ xs ys out i j m h k = merge-end ρ f σ out (subst (λ A. IsMerging ρ f σ A [] out) (drop-all xs i h) (subst (λ B. IsMerging ρ f σ (drop i xs) B out) (drop-all ys j k) m))
+at-end ρ f σ xs ys out i j m h k = merge-end ρ f σ out (subst (λ A. IsMerging ρ f σ A [] out) (drop_all i xs h) (subst (λ B. IsMerging ρ f σ (drop i xs) B out) (drop_all j ys k) m))

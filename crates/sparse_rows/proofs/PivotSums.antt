@@ -1,7 +1,15 @@
 -- The sums that kept rows give for their pivots.
+--   dot-entries    rows added up over their entries
+--   last-split, row, below, entry, row-take, row-has ..    the last entry of a leading row
+--   pivot-sum    the sum
+--   IsTurning, turning-start, turning-at, turning-end    the other signs, entry by entry
+--   leading-at, solved-at, solved-end    all rows
 use Rattle.std.proofs.Common.{◌≡◌, ◌≢◌, ℕ, zero, suc, ◌+◌, ◌<◌, ◌≤◌, ◌↔◌, inl, inr, List, [], ◌∷◌, ◌++◌, length, take, drop, get_or, add-one, refl, ap, sym, ◌∙◌, subst, arith, false}
 use Rattle.std.proofs.lemmas.Bool.{cases_eq, cases_order, cases_Bool}
-use Rattle.std.specs.Prelude.{Result, Ok, Err, IfOk}
+use Rattle.std.proofs.lemmas.List.{drop_all}
+use Rattle.list_laws.proofs.Lists.{drop_head}
+use Rattle.list_laws.proofs.Members.{each_map, each_push, each_read, each_split, each_take}
+use Rattle.number_laws.proofs.Sameness.{one_not_zero}
 use lib.IntN.{negsuc}
 use Rattle.tensor_defs.specs.Lists.{Each}
 use Rattle.tensor_defs.specs.Number.{Number, add, mul, neg, num_zero, num_one, whole, value_of}
@@ -11,19 +19,15 @@ use Rattle.exact_frac.specs.Held.{IsHeldAs}
 use Rattle.sparse_rows.specs.Rows.{part, coeff, Above, IsEntry, IsRow}
 use Rattle.sparse_rows.specs.Solutions.{dot, IsLeading, IsReduced}
 use Rattle.sparse_rows.specs.Sums.{sum_entries, IsNegated, IsPivotSum, IsSolved, AreSolved}
-use Rattle.sparse_rows.specs.Free.{is_pivot}
+use Rattle.sparse_rows.specs.Sums.{is_pivot}
 use Rattle.sparse_rows.specs.KeptRows.{kept_of, kepts}
 use Rattle.sparse_rows.specs.declared.entry.KeptRow.{KeptRow}
 use Rattle.sparse_rows.specs.declared.entry.PivotSum.{PivotSum}
 use Rattle.sparse_rows.specs.declared.entry.Entry.{Entry}
-use Rattle.sparse_rows.proofs.Lines.{each_map, each_snoc, dot-scaled}
-use Rattle.sparse_rows.proofs.Tables.{from_sum, to_sum, one_not_zero, IsPivotRow, pivot_rows}
-use Rattle.sparse_rows.proofs.Merging.{part-own, part-other, coeff-head, coeff-tail, coeff-below, coeff-snoc, neg-not_zero, drop-head, drop-all}
-use Rattle.sparse_rows.proofs.RowSteps.{IsScaling, scaling-start, scaling-step, scaling-same, found-entry, each-at}
-
-pub ok_map : {X E : Type 0} (P Q : X → Type 0) → ((x : X) → P x → Q x) → (r : Result X E) → IfOk r P → IfOk r Q
-ok_map P Q f (Ok x) h = f x h
-ok_map P Q f (Err e) h = tt
+use Rattle.sparse_rows.proofs.Lines.{dot-scaled}
+use Rattle.sparse_rows.proofs.Pivots.{from_sum, to_sum, IsPivotRow, pivot_rows}
+use Rattle.sparse_rows.proofs.Merging.{part-own, part-other, coeff-head, coeff-tail, coeff-below, coeff-snoc, neg-not_zero}
+use Rattle.sparse_rows.proofs.RowSteps.{IsScaling, scaling-start, scaling-step, scaling-same, found-entry}
 
 -- ---- rows added up over their entries
 dot-none : (n : ℕ) (e : Entry) (t : ℕ → Number) → n ≤ e.unknown → dot n (part e) t ≡ num_zero
@@ -67,10 +71,6 @@ last-split zero (x ∷ []) h = (x, refl)
 last-split zero (x ∷ y ∷ ys) h = absurd (omega (arith, h))
 last-split (suc k) (x ∷ xs) h = let r = last-split k xs (omega (arith, h)) in (r.0, ap (λ l. x ∷ l) r.1)
 
-each_init : (P : Entry → Type 0) (xs : List Entry) (x : Entry) → Each P (xs ++ x ∷ []) → Each P xs × P x
-each_init P [] x h = (tt, h.0)
-each_init P (y ∷ ys) x h = let r = each_init P ys x h.1 in ((h.0, r.0), r.1)
-
 record IsInit (xs : List Entry) (x : Entry) : Type 0 where
   pub row : IsRow xs
   pub below : Each (λ e. e.unknown < x.unknown) xs
@@ -80,13 +80,8 @@ row_init : (xs : List Entry) (x : Entry) → IsRow (xs ++ x ∷ []) → IsInit x
 row_init [] x r = record { row = tt; below = tt; entry = r.1 }
 row_init (y ∷ ys) x r =
     let s = row_init ys x r.2 in
-    let a = each_init (λ e. y.unknown < e.unknown) ys x r.0 in
-    record { row = (a.0, r.1, s.row); below = (a.1, s.below); entry = s.entry }
-
-each_take : (P : Entry → Type 0) (xs : List Entry) (k : ℕ) → Each P xs → Each P (take k xs)
-each_take P xs zero h = tt
-each_take P [] (suc k) h = tt
-each_take P (x ∷ xs) (suc k) h = (h.0, each_take P xs k h.1)
+    let a = each_split (λ e. y.unknown < e.unknown) ys (x ∷ []) r.0 in
+    record { row = (a.0, r.1, s.row); below = (a.1.0, s.below); entry = s.entry }
 
 pub row-take : (xs : List Entry) (k : ℕ) → IsRow xs → IsRow (take k xs)
 row-take xs zero r = tt
@@ -164,15 +159,15 @@ turning-start xs out r o = subst (IsTurning xs xs) (sym o) (record { scaling = s
 pub turning-at : (xs : List Entry) (i : ℕ) (a e : Entry) (out out' : List Entry) → IsTurning xs (drop i xs) out → IsRow xs → i < length xs → a ≡ get_or xs i a → e.unknown ≡ a.unknown → IsHeldAs (neg (value_of a.value)) e.value → out' ≡ out ++ e ∷ [] → IsTurning xs (drop (i + 1) xs) out'
 turning-at xs i a e out out' m r h p q v o = subst (IsTurning xs (drop (i + 1) xs)) (sym o) (record {
   scaling = scaling-step (coeff xs) (whole (negsuc 0)) a e (drop (i + 1) xs) out
-      (subst (λ A. IsScaling (coeff xs) (whole (negsuc 0)) A out) (drop-head xs i a h p) m.scaling) q
+      (subst (λ A. IsScaling (coeff xs) (whole (negsuc 0)) A out) (drop_head xs i a h p) m.scaling) q
       (sym v.same ∙ num_mul_comm (whole (negsuc 0)) (value_of a.value))
       (record { held = v.held; not_zero = λ z. neg-not_zero (value_of a.value) (found-entry xs i a r h p).not_zero (v.same ∙ z) });
-  below = λ k b. each_snoc (λ x. x.unknown < k) out e (m.below k b) (subst (λ u. u < k) (sym q) (each-at (λ x. x.unknown < k) xs i a h p b));
+  below = λ k b. each_push (λ x. x.unknown < k) out e (m.below k b) (subst (λ u. u < k) (sym q) (each_read (λ x. x.unknown < k) xs b i a h p));
 })
 
 pub turning-end : (xs : List Entry) (i : ℕ) (out : List Entry) → IsTurning xs (drop i xs) out → length xs ≤ i → IsNegated xs out
 turning-end xs i out m h =
-    let s = subst (λ A. IsScaling (coeff xs) (whole (negsuc 0)) A out) (drop-all xs i h) m.scaling in
+    let s = subst (λ A. IsScaling (coeff xs) (whole (negsuc 0)) A out) (drop_all i xs h) m.scaling in
     record {
       is_row = s.row_out;
       same = λ u. scaling-same (coeff xs) (whole (negsuc 0)) out s u ∙ num_mul_comm (coeff xs u) (whole (negsuc 0));

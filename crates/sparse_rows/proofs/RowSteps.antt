@@ -1,10 +1,21 @@
 -- The steps, row by row.
+--   found-at, found-entry, IsSplit, middle-below, split-start, split-low ..    looking for an unknown
+--   IsReducing, reducing-start, line_path, reducing-skip, reducing-step    reducing
+--   scaling-nonzero, IsScaling, scaling-start, scaling-step, scaling-grows, scaling-same ..    scaling
+--   IsClearing, clearing-start, clearing-step, append-none, kepts-snoc, rows-snoc ..    clearing
+--   clearing-at, kept-none, cleared-copy, cleared-less, cleared-grows, reducing-at ..    at places of lists
+--   kept-made, kept-fails, scale-fails    keeping
+--   line-head, given-row, state-at, skip-at, keep-at, keep-fails, state-done    one row more
+--   difference-same, times-same, reduced-same, reducing_same, kept-same, cannot-same, err-same
+--       the same lists under other names
 use Rattle.std.proofs.Common.{length, get_or, drop, drop-cons, add-one, ◌≡◌, ◌≢◌, ℕ, zero, suc, ◌+◌, ◌-◌, ◌/◌, ◌<◌, ◌≤◌, inl, inr, List, [], ◌∷◌, ◌++◌, refl, ap, sym, ◌∙◌, subst, arith}
 use Rattle.std.proofs.lemmas.Bool.{cases_eq, cases_lt}
 use Rattle.std.specs.Prelude.{Result, Ok, Err, IfErr, IsErrAnd}
 use Rattle.sparse_rows.specs.declared.entry.EliminateFault.{EliminateFault}
 use Rattle.sparse_rows.specs.declared.entry.EliminateFault.TheVariants.{TooLarge}
 use Rattle.std.proofs.Math.ListN.{drop_of_length-le}
+use Rattle.list_laws.proofs.Lists.{drop_head}
+use Rattle.list_laws.proofs.Members.{each_push, each_read}
 use Rattle.sparse_rows.proofs.Lines.{IsState, state-skip, state-keep, grows-scaling, grows-clearing, state-end}
 use Rattle.sparse_rows.specs.declared.entry.Row.{Row}
 use Rattle.tensor_defs.specs.Number.{Number, add, mul, num_zero, ReachesLimit, value_of, Fraction}
@@ -12,14 +23,14 @@ use Rattle.number_laws.proofs.NumberLaws.{num_add-zero, num_zero-add, num_zero-m
 use Rattle.tensor_defs.specs.Elimination.{Line, Kept, less, reduced, cleared, TimesGrows, ReducingGrows, LessGrows, ClearingGrows, LineGrows, GrowsFrom}
 use Rattle.tensor_defs.specs.Lists.{Each}
 use Rattle.sparse_rows.specs.Solutions.{scaled_by, IsPivot}
-use Rattle.sparse_rows.proofs.Lines.{each_snoc, less-zero, undo, kept_same}
+use Rattle.sparse_rows.proofs.Lines.{less-zero, undo, kept_same}
 use Rattle.exact_frac.specs.Held.{inverse_of, IsHeld}
 use Rattle.exact_frac.proofs.Parts.{inverse-mul}
 use Rattle.sparse_rows.specs.Rows.{part, coeff, Above, IsEntry, IsRow, IsDifference}
 use Rattle.sparse_rows.specs.KeptRows.{IsKeptRow, CannotKeep, IsEliminated, AreGivenRows, lines, kept_of, kepts, AreRows, IsReducedRow, IsScaledRow, CannotScale, IsClearedRow, AreCleared}
 use Rattle.sparse_rows.specs.declared.entry.Entry.{Entry}
 use Rattle.sparse_rows.specs.declared.entry.KeptRow.{KeptRow}
-use Rattle.sparse_rows.proofs.Merging.{part-own, part-other, coeff-below, coeff-head, coeff-tail, coeff-snoc, coeff-small, drop-head, row_snoc, below_head, below_tail}
+use Rattle.sparse_rows.proofs.Merging.{part-own, part-other, coeff-below, coeff-head, coeff-tail, coeff-snoc, coeff-small, row_snoc, below_head, below_tail}
 
 pub row-drop : (xs : List Entry) (i : ℕ) → IsRow xs → IsRow (drop i xs)
 row-drop xs zero r = r
@@ -27,11 +38,6 @@ row-drop [] (suc i) r = tt
 row-drop (x ∷ xs) (suc i) r = row-drop xs i r.2
 
 -- ---- looking for an unknown
-pub each-at : (P : Entry → Type 0) (xs : List Entry) (i : ℕ) (x : Entry) → i < length xs → x ≡ get_or xs i x → Each P xs → P x
-each-at P [] i x h e p = absurd (omega (arith, h))
-each-at P (y ∷ ys) zero x h e p = subst P (sym e) p.0
-each-at P (y ∷ ys) (suc i) x h e p = each-at P ys i x (omega (arith, h)) e p.1
-
 coeff-empty : (xs : List Entry) (u : ℕ) → length xs ≡ 0 → coeff xs u ≡ num_zero
 coeff-empty [] u h = refl
 coeff-empty (x ∷ xs) u h = absurd (omega (arith, h))
@@ -41,11 +47,11 @@ pub found-at : (xs : List Entry) (i : ℕ) (x : Entry) → i < length xs → x �
 found-at [] i x h e r = absurd (omega (arith, h))
 found-at (y ∷ ys) zero x h e r = coeff-head y ys x.unknown (λ k. (e k).unknown) r.0 ∙ (λ k. value_of (sym e k).value)
 found-at (y ∷ ys) (suc i) x h e r =
-    let k : y.unknown < x.unknown = each-at (λ z. y.unknown < z.unknown) ys i x (omega (arith, h)) e r.0 in
+    let k : y.unknown < x.unknown = each_read (λ z. y.unknown < z.unknown) ys r.0 i x (omega (arith, h)) e in
     coeff-tail y ys x.unknown (λ p. omega (arith, p, k)) ∙ found-at ys i x (omega (arith, h)) e r.2
 
 pub found-entry : (xs : List Entry) (i : ℕ) (e : Entry) → IsRow xs → i < length xs → e ≡ get_or xs i e → IsEntry e
-found-entry xs i e r h p = let s : IsRow (e ∷ drop (i + 1) xs) = subst IsRow (drop-head xs i e h p) (row-drop xs i r) in s.1
+found-entry xs i e r h p = let s : IsRow (e ∷ drop (i + 1) xs) = subst IsRow (drop_head xs i e h p) (row-drop xs i r) in s.1
 
 -- the entries before place k lie below u, the others above it
 pub record IsSplit (xs : List Entry) (u low high : ℕ) : Type 0 where
@@ -57,7 +63,7 @@ rise-at : (xs : List Entry) (i j : ℕ) (x y : Entry) → IsRow xs → i < j →
 rise-at [] i j x y r l h e f = absurd (omega (arith, h))
 rise-at (z ∷ zs) i zero x y r l h e f = absurd (omega (arith, l))
 rise-at (z ∷ zs) zero (suc j) x y r l h e f =
-    let k : z.unknown < y.unknown = each-at (λ w. z.unknown < w.unknown) zs j y (omega (arith, h)) f r.0 in
+    let k : z.unknown < y.unknown = each_read (λ w. z.unknown < w.unknown) zs r.0 j y (omega (arith, h)) f in
     subst (λ (w : Entry). w.unknown < y.unknown) (sym e) k
 rise-at (z ∷ zs) (suc i) (suc j) x y r l h e f = rise-at zs i j x y r.2 (omega (arith, l)) (omega (arith, h)) e f
 
@@ -164,7 +170,7 @@ scaling-step ρ w a e A out m p v z = record {
       ∙ ap (λ x. add (add (coeff out u) x) (mul (coeff A u) w)) (put u) ∙ ap (λ x. add x (mul (coeff A u) w)) (sym (coeff-snoc out e u));
   row_a = m.row_a.2;
   row_out = row_snoc out e m.row_out (subst (λ k. Each (λ x. x.unknown < k) out) (sym p) (below_head a A out m.below)) z;
-  below = each_snoc (λ x. Above x.unknown A) out e (below_tail a A out m.below) (subst (λ k. Above k A) (sym p) m.row_a.0);
+  below = each_push (λ x. Above x.unknown A) out e (below_tail a A out m.below) (subst (λ k. Above k A) (sym p) m.row_a.0);
 }
   where
     put : (u : ℕ) → mul (part a u) w ≡ part e u
@@ -186,7 +192,7 @@ scaling-same ρ w out m u = sym (m.sum u ∙ ap (add (coeff out u)) (num_zero-mu
 pub last-value : (xs : List Entry) (i : ℕ) (x : Entry) → suc i ≡ length xs → x ≡ get_or xs i x → IsRow xs
     → (coeff xs x.unknown ≡ value_of x.value) × IsEntry x × ((u : ℕ) → x.unknown < u → coeff xs u ≡ num_zero)
 last-value xs i x h e r =
-    let d = drop-head xs i x (omega (arith, h)) e in
+    let d = drop_head xs i x (omega (arith, h)) e in
     let s : IsRow (x ∷ drop (i + 1) xs) = subst IsRow d (row-drop xs i r) in
     (found-at xs i x (omega (arith, h)) e r, s.1, λ u k. after xs i x h e r u k)
   where
@@ -194,7 +200,7 @@ last-value xs i x h e r =
     after [] i x h e r u k = refl
     after (y ∷ ys) zero x h e r u k = let p : x.unknown ≡ y.unknown = λ j. (e j).unknown in coeff-tail y ys u (λ q. omega (arith, q, p, k)) ∙ coeff-empty ys u (omega (arith, h))
     after (y ∷ ys) (suc i) x h e r u k =
-        let l : y.unknown < x.unknown = each-at (λ z. y.unknown < z.unknown) ys i x (omega (arith, h)) e r.0 in
+        let l : y.unknown < x.unknown = each_read (λ z. y.unknown < z.unknown) ys r.0 i x (omega (arith, h)) e in
         coeff-tail y ys u (λ p. omega (arith, p, k, l)) ∙ after ys i x (omega (arith, h)) e r.2 u k
 
 pub last-pivot : (xs : List Entry) (i : ℕ) (x : Entry) → suc i ≡ length xs → x ≡ get_or xs i x → IsRow xs → IsPivot (coeff xs) x.unknown (inverse_of x.value)
@@ -247,7 +253,7 @@ kepts-snoc [] k = refl
 kepts-snoc (x ∷ ks) k = ap (λ l. kept_of x ∷ l) (kepts-snoc ks k)
 
 pub rows-snoc : (ks : List KeptRow) (k : KeptRow) → AreRows ks → IsRow k.entries.items → AreRows (ks ++ k ∷ [])
-rows-snoc ks k = each_snoc (λ k. IsRow k.entries.items) ks k
+rows-snoc ks k = each_push (λ k. IsRow k.entries.items) ks k
 
 pub kept-head : (ks : List KeptRow) (i : ℕ) (k : KeptRow) → i < length ks → k ≡ get_or ks i k → drop i ks ≡ k ∷ drop (i + 1) ks
 kept-head ks i k h e = drop-cons ks i k h ∙ (λ j. sym e j ∷ drop (sym (add-one i) j) ks)

@@ -1,11 +1,15 @@
 -- Whole numbers, entry by entry.
-use Rattle.std.proofs.Common.{length, get_or, drop, drop-cons, add-one, ◌≡◌, ◌≢◌, ℕ, zero, suc, ◌+◌, ◌<◌, ◌≤◌, inl, inr, List, [], ◌∷◌, ◌++◌, refl, ap, sym, ◌∙◌, subst, arith, nat_eq, cond}
-use Rattle.std.proofs.lemmas.Bool.{cases_eq}
+--   IsTaking    what is left of the whole numbers, and what is taken so far
+--   none, small-at, read-back, skip-at, more-at, taking-end    at places of the list
+use Rattle.std.proofs.Common.{length, get_or, drop, ◌≡◌, ◌≢◌, ℕ, ◌+◌, ◌<◌, ◌≤◌, inl, inr, List, [], ◌∷◌, ◌++◌, refl, ap, sym, ◌∙◌, subst, nat_eq, cond}
+use Rattle.std.proofs.lemmas.Bool.{cases_eq, eq-eqb, ne_eqb}
 use Rattle.std.proofs.Math.ListN.{drop_of_length-le}
 use Rattle.std.specs.Prelude.{unsigned_abs}
 use lib.IntN.{pos}
 use Rattle.exact_frac.proofs.Wide.{narrow}
 use Rattle.std.proofs.Common.{w64, to_z, of_z}
+use Rattle.list_laws.proofs.Lists.{drop_head}
+use Rattle.list_laws.proofs.Members.{each_map, each_push}
 use Rattle.tensor_defs.specs.Lists.{Each}
 use Rattle.tensor_defs.specs.Number.{add, num_zero, whole, value_of, limit}
 use Rattle.tensor_defs.specs.Elimination.{Line}
@@ -14,18 +18,17 @@ use Rattle.sparse_rows.specs.Rows.{part, coeff, IsEntry, IsRow}
 use Rattle.sparse_rows.specs.WholeRows.{whole_part, whole_line, AreWhole, IsWholeRow}
 use Rattle.sparse_rows.specs.declared.entry.Entry.{Entry}
 use Rattle.sparse_rows.specs.declared.whole.WholeEntry.{WholeEntry}
-use Rattle.sparse_rows.proofs.Lines.{each_map, each_snoc}
-use Rattle.sparse_rows.proofs.Merging.{part-own, part-other, coeff-snoc, row_snoc, test_same, test_other}
+use Rattle.sparse_rows.proofs.Merging.{part-own, part-other, coeff-snoc, row_snoc}
 
 whole-own : (e : WholeEntry) (u : ℕ) → u ≡ e.unknown → whole_part e u ≡ whole e.number
 unfolding whole_part
 whole-own e u h =
     ap (λ k. cond (nat_eq k e.unknown) (whole e.number) num_zero) h
-    ∙ ap (λ b. cond b (whole e.number) num_zero) (test_same e.unknown)
+    ∙ ap (λ b. cond b (whole e.number) num_zero) (eq-eqb e.unknown e.unknown refl)
 
 whole-other : (e : WholeEntry) (u : ℕ) → u ≢ e.unknown → whole_part e u ≡ num_zero
 unfolding whole_part
-whole-other e u h = ap (λ b. cond b (whole e.number) num_zero) (test_other u e.unknown h)
+whole-other e u h = ap (λ b. cond b (whole e.number) num_zero) (ne_eqb u e.unknown h)
 
 -- what is left of the whole numbers, and what is taken so far
 pub record IsTaking (ρ : Line) (ws : List WholeEntry) (out : List Entry) : Type 0 where
@@ -63,7 +66,7 @@ taking-more ρ w ws out e m p v z = record {
       ∙ ap (λ x. add (add (coeff out u) x) (whole_line ws u)) (put u) ∙ ap (λ x. add x (whole_line ws u)) (sym (coeff-snoc out e u));
   are_whole = m.are_whole.2;
   row_out = row_snoc out e m.row_out (subst (λ k. Each (λ x. x.unknown < k) out) (sym p) (below-head w ws out m.below)) z;
-  below = each_snoc (λ x. Each (λ y. x.unknown < y.unknown) ws) out e (below-tail w ws out m.below)
+  below = each_push (λ x. Each (λ y. x.unknown < y.unknown) ws) out e (below-tail w ws out m.below)
       (subst (λ k. Each (λ y. k < y.unknown) ws) (sym p) m.are_whole.0);
 }
   where
@@ -74,24 +77,11 @@ taking-more ρ w ws out e m p v z = record {
     ]
 
 -- ---- at places of the list
-whole-head : (ws : List WholeEntry) (i : ℕ) (w : WholeEntry) → i < length ws → w ≡ get_or ws i w → drop i ws ≡ w ∷ drop (i + 1) ws
-whole-head ws i w h e = drop-cons ws i w h ∙ (λ j. sym e j ∷ drop (sym (add-one i) j) ws)
-
 taking-at : (ρ : Line) (ws : List WholeEntry) (i : ℕ) (w : WholeEntry) (out : List Entry) → IsTaking ρ (drop i ws) out → i < length ws → w ≡ get_or ws i w → IsTaking ρ (w ∷ drop (i + 1) ws) out
-taking-at ρ ws i w out m h e = subst (λ l. IsTaking ρ l out) (whole-head ws i w h e) m
+taking-at ρ ws i w out m h e = subst (λ l. IsTaking ρ l out) (drop_head ws i w h e) m
 
 abbrev pub none : WholeEntry
 none = record { unknown = 0; number = pos 0 }
-
-pub get-own : (ws : List WholeEntry) (i : ℕ) (d : WholeEntry) → i < length ws → get_or ws i d ≡ get_or ws i (get_or ws i d)
-get-own [] i d h = absurd (omega (arith, h))
-get-own (w ∷ ws) zero d h = refl
-get-own (w ∷ ws) (suc i) d h = get-own ws i d (omega (arith, h)) ∙ past ws i d (get_or ws i d) (omega (arith, h))
-  where
-    past : (ws : List WholeEntry) (i : ℕ) (d e : WholeEntry) → i < length ws → get_or ws i (get_or ws i d) ≡ get_or ws i e
-    past [] i d e h = absurd (omega (arith, h))
-    past (w ∷ ws) zero d e h = refl
-    past (w ∷ ws) (suc i) d e h = past ws i d e (omega (arith, h))
 
 pub small-at : (ρ : Line) (ws : List WholeEntry) (i : ℕ) (w : WholeEntry) (out : List Entry) → IsTaking ρ (drop i ws) out → i < length ws → w ≡ get_or ws i w → unsigned_abs w.number < limit
 small-at ρ ws i w out m h e = (taking-at ρ ws i w out m h e).are_whole.1

@@ -1,6 +1,4 @@
 pub mod Solutions
-pub mod Free
-pub mod Laws
 pub mod Rows
 pub mod KeptRows
 pub mod WholeRows

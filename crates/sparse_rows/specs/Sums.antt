@@ -1,18 +1,22 @@
 -- The sums that kept rows give for their pivots.
+--   is_pivot        an unknown is the pivot of a kept row
 --   sum_entries     the sum of the fractions times the numbers of their unknowns
 --   IsNegated       a row with the negative of each fraction of another
 --   IsPivotSum      unknowns before a pivot, with fractions: their sum is the pivot's number exactly in the solutions of its row
 --   IsSolved, AreSolved    a pivot as such a sum of unknowns that are the pivot of no row; those of all rows, in their order
 -- Source: the solution of a linear system by its free unknowns, as in any textbook.
-use Rattle.std.specs.Prelude.{◌≡◌, ◌≢◌, ℕ, ◌<◌, ◌↔◌, List, [], ◌∷◌, false}
+use Rattle.std.specs.Prelude.{◌≡◌, ◌≢◌, ℕ, ◌<◌, ◌↔◌, List, [], ◌∷◌, Bool, true, false, cond, nat_eq}
 use Rattle.tensor_defs.specs.Lists.{Each}
 use Rattle.tensor_defs.specs.Number.{Number, add, mul, neg, num_zero, value_of}
 use Rattle.tensor_defs.specs.Elimination.{Kept}
 use Rattle.sparse_rows.specs.Rows.{coeff, IsRow}
 use Rattle.sparse_rows.specs.Solutions.{dot}
-use Rattle.sparse_rows.specs.Free.{is_pivot}
 use Rattle.sparse_rows.specs.declared.entry.Entry.{Entry}
 use Rattle.sparse_rows.specs.declared.entry.PivotSum.{PivotSum}
+
+abbrev pub is_pivot : List Kept → ℕ → Bool
+is_pivot [] u = false
+is_pivot (κ ∷ κs) u = cond (nat_eq u κ.pivot) true (is_pivot κs u)
 
 abbrev pub sum_entries : List Entry → (ℕ → Number) → Number
 sum_entries [] t = num_zero

@@ -1,4 +1,4 @@
-// The elimination.
+//! The elimination.
 ghost use Rattle.std.specs.Prelude.{◌≡◌, ◌<◌, IfOk, IfErr, [], length};
 ghost use Rattle.tensor_defs.specs.Elimination.{GrowsFrom};
 ghost use Rattle.sparse_rows.specs.Rows.{coeff, IsRow};

@@ -1,4 +1,4 @@
-// Rows, as lists of the unknowns at which they aren't 0.
+//! Rows, as lists of the unknowns at which they aren't 0.
 use exact_frac::Frac;
 use thiserror::Error;
 

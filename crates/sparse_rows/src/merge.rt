@@ -1,4 +1,4 @@
-// A row less a multiple of another.
+//! A row less a multiple of another.
 ghost use Rattle.std.specs.Prelude.{◌≡◌, ◌≢◌, IfOk, OnOk, IfErr, ◌++◌, [], ◌∷◌};
 ghost use Rattle.tensor_defs.specs.Number.{add, mul, neg, num_zero, ReachesLimit, value_of};
 ghost use Rattle.tensor_defs.specs.Elimination.{TimesGrows};

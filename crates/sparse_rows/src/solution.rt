@@ -1,45 +1,12 @@
-// The solutions that kept rows tell.
-ghost use Rattle.std.specs.Prelude.{◌≡◌, IfOk};
+//! The solutions that kept rows tell.
+ghost use Rattle.std.specs.Prelude.{IfOk};
 ghost use Rattle.sparse_rows.specs.Rows.{IsRow};
 ghost use Rattle.sparse_rows.specs.Solutions.{IsLeading, IsReduced};
-ghost use Rattle.sparse_rows.specs.Free.{is_pivot, free_below};
 ghost use Rattle.sparse_rows.specs.KeptRows.{kept_of, kepts, AreRows};
 ghost use Rattle.sparse_rows.specs.Sums.{IsNegated, IsPivotSum, AreSolved};
 
 use crate::entry::{Entry, KeptRow, NoMemory, PivotSum};
 use std::alloc::Global;
-
-/// Whether an unknown is the pivot of a kept row.
-pub fn is_pivot_of(kept: &[KeptRow], unknown: usize) -> bool
-    ensures { result ≡ is_pivot (kepts kept.now) unknown }
-{
-    for row in kept {
-        if row.pivot == unknown {
-            return true;
-        }
-    }
-    false
-}
-
-/// The unknowns that are the pivot of no kept row, rising.
-pub fn free_unknowns(
-    alloc: Global,
-    unknowns: usize,
-    kept: &[KeptRow],
-) -> Result<Vec<usize>, NoMemory>
-    ensures { IfOk result (λ v. v.items ≡ free_below unknowns (kepts kept.now)) }
-{
-    let mut free = Vec::new(alloc);
-    for unknown in 0..unknowns {
-        if !is_pivot_of(kept, unknown) {
-            match free.push(unknown) {
-                Ok(()) => {}
-                Err(_) => return Err(NoMemory),
-            }
-        }
-    }
-    Ok(free)
-}
 
 /// Each fraction with the other sign.
 fn negated(alloc: Global, entries: &[Entry]) -> Result<Vec<Entry>, NoMemory>

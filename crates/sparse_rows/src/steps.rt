@@ -1,4 +1,4 @@
-// The steps of the elimination.
+//! The steps of the elimination.
 ghost use Rattle.std.specs.Prelude.{◌≡◌, ◌≢◌, ◌<◌, IfOk, OnOk, IfErr, ◌++◌, [], ◌∷◌, length};
 ghost use Rattle.tensor_defs.specs.Number.{mul, num_zero, ReachesLimit, value_of};
 ghost use Rattle.tensor_defs.specs.Elimination.{ReducingGrows, ClearingGrows, LessGrows};

@@ -1,4 +1,4 @@
-// Rows of whole numbers.
+//! Rows of whole numbers.
 ghost use Rattle.std.specs.Prelude.{IfOk};
 ghost use Rattle.sparse_rows.specs.WholeRows.{AreWhole, IsWholeRow};
 

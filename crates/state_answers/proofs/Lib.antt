@@ -1,3 +1,3 @@
 mod ClassTexts
-mod Outside
-mod SameSets
+pub mod Outside
+pub mod SameSets

@@ -31,6 +31,7 @@ impl OperationList for Representatives<'_> {
     }
 
     fn operation(&self, place: usize) -> Op {
+        // what the count tells of the places is for the proof
         let _count = self.states.count();
         self.states.representative(place + 1)
     }

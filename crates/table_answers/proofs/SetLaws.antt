@@ -1,6 +1,7 @@
 -- Tables, growth and invariance over sets of operations with the same members.
 use Rattle.std.proofs.Common.{inl, inr}
 use Rattle.std.specs.Prelude.{Bool}
+use Rattle.tensor_laws.proofs.Sets.{same_back}
 use Rattle.tensor_defs.specs.Elimination.{AreRepresentatives, Carrier, Grows, IsDropped}
 use Rattle.tensor_defs.specs.Frames.{IsFramed}
 use Rattle.tensor_defs.specs.Group.{SameSet}
@@ -9,9 +10,6 @@ use Rattle.tensor_defs.specs.Operation.{Operation}
 use Rattle.tensor_defs.specs.Table.{Fits, Table, value_at}
 use Rattle.tensor_defs.specs.Tensor.{Index}
 use Rattle.constraint_rows.proofs.InvariantLaws.{fewer_suffice}
-
-pub same_back : (G H : Operation → Type 0) → SameSet G H → SameSet H G
-same_back G H s k = ((s k).1, (s k).0)
 
 -- the same operations leave the same tensors unchanged
 pub same_admitted : (j : JahnSymbol) (G H : Operation → Type 0) → SameSet G H → AdmitSame j G H

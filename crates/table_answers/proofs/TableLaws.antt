@@ -1,7 +1,7 @@
 -- Two tables in index order are the same exactly where their groups leave the same tensors unchanged.
 use Rattle.std.proofs.Common.{◌≡◌, ◌↔◌, ℕ, suc, ◌^◌, ◌<◌, Bool, cond, List, [], ◌∷◌, map, length, get_or, refl, ap, sym, ◌∙◌, subst, arith}
+use Rattle.list_laws.proofs.Members.{each_map}
 use Rattle.tensor_defs.specs.Jahn.{AdmitSame, Bracket, IsInvariant, JahnSymbol, Respects, body_brackets, rank}
-use Rattle.tensor_defs.specs.Lists.{Each}
 use Rattle.tensor_defs.specs.Number.{Number, neg}
 use Rattle.tensor_defs.specs.Operation.{Operation}
 use Rattle.tensor_defs.specs.Orders.{index_before}
@@ -20,10 +20,6 @@ use Rattle.reduced_form.proofs.FormLaws.{rows_same}
 use Rattle.table_answers.proofs.SetLaws.{fits_admitted}
 
 -- ---- component lists that agree are invariant together
-each_weaker : {X : Type 0} (P Q : X → Type 0) → ((x : X) → P x → Q x) → (xs : List X) → Each P xs → Each Q xs
-each_weaker P Q h [] e = tt
-each_weaker P Q h (x ∷ xs) e = (h x e.0, each_weaker P Q h xs e.1)
-
 respects_agreed : (r : ℕ) (t u : Tensor) (b : Bracket) → Agree r t u → Respects r t b → Respects r u b
 respects_agreed r t u b e h is js x =
     sym (e js (length_exchanged x)) ∙ h is js x ∙ ap (λ (n : Number). cond b.negates (neg n) n) (e is x.of_rank)
@@ -32,7 +28,7 @@ invariant_agreed : (j : JahnSymbol) (G : Operation → Type 0) (t u : Tensor) �
     IsInvariant j G u
 invariant_agreed j G t u e inv = record {
   symmetric =
-      each_weaker (λ b. Respects (rank j) t b) (λ b. Respects (rank j) u b)
+      each_map (λ b. Respects (rank j) t b) (λ b. Respects (rank j) u b)
       (λ b. respects_agreed (rank j) t u b e) (body_brackets j.factors 0) inv.symmetric;
   unchanged = λ g h is n. sym (act-agree j.marks g (rank j) t u e is n) ∙ inv.unchanged g h is n ∙ e is n;
 }

@@ -32,7 +32,7 @@ use std::alloc::Global;
 use tensor_rank::{Rank, Shape, at_rank, compile};
 
 /// The end of a header: how many components there are, and how many of them are free.
-fn counts(alloc: Global, free: usize, all: usize) -> SmallVec<u8, 96>
+pub fn counts(alloc: Global, free: usize, all: usize) -> SmallVec<u8, 96>
     ensures { result.items ≡ 32 ∷ line_of (codes "free" ∷ decimal free ∷ codes "of" ∷ decimal all ∷ []) }
 {
     let mut text = SmallVec::new(alloc);

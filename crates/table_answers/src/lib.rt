@@ -6,7 +6,7 @@ mod memory;
 mod sameness;
 mod solving;
 
-pub use forms::answer_form;
+pub use forms::{answer_form, counts};
 pub use reduced_form::SolveFault;
 pub use sameness::answer_same;
 

@@ -1,3 +1,5 @@
+//! Want of memory, from whichever crate below it comes.
+
 /// Memory was refused.
 #[derive(Clone, Copy, Debug, PartialEq, Eq, Drop)]
 pub struct NoMemory;

@@ -1,4 +1,8 @@
 -- The carried list, one component after the other.
+--   IsCarrying    the components below a number
+--   carrying-grows    a component whose sum grows
+--   lists_in_turn    a product carries lists as its factors do in turn
+--   carries-err, grows_always    refusals
 use Rattle.std.proofs.Common.{◌≡◌, ℕ, ◌+◌, ◌<◌, ◌^◌, inl, inr, List, [], ◌∷◌, ◌++◌, length, get_or, ap, sym, ◌∙◌, subst, arith, Result, Ok, Err}
 use Rattle.std.proofs.Math.ListN.{get_or-append}
 use Rattle.std.proofs.lemmas.Bool.{cases_lt, false≢true}
@@ -23,7 +27,7 @@ use Rattle.tensor_action.proofs.IndexPlaces.{sum_of-indices}
 use Rattle.tensor_action.proofs.SumLaws.{IsSummed, summed-end, summed-calm}
 
 -- the sum of the parts is the component
-sum_is_act : (m : Marks) (g : Operation) (t : Tensor) (i : Index) →
+pub sum_is_act : (m : Marks) (g : Operation) (t : Tensor) (i : Index) →
     sum_of (λ j. mul (factor m g i j) (t j)) (indices (length i)) ≡ act m g t i
 unfolding act
 sum_is_act m g t i =

@@ -1,39 +1,22 @@
 -- The determinant of an operation is 1 or -1, and the code reads which.
-use Rattle.std.proofs.Common.{◌≡◌, ℕ, ◌/◌, ◌%◌, ◌<◌, Bool, true, false, nat_eq, ◌⊎◌, inl, inr, refl, ap, sym, ◌∙◌, subst, arith}
+use Rattle.std.proofs.Common.{◌≡◌, ℕ, ◌<◌, Bool, true, false, inl, inr, ap, sym, ◌∙◌, subst}
+use Rattle.op_matrix.proofs.Determinants.{unit_determinant}
 use lib.IntN.{ℤ, pos, negsuc}
 use lib.Signed.{lt_z}
 use mir.Syntax.{w8}
 use mir.Val.{to_z, of_z}
-use Rattle.tensor_defs.specs.IntRing.{mul-one_ℤ}
 use Rattle.tensor_defs.specs.Number.{mul, neg, num_one, whole}
 use Rattle.tensor_defs.specs.Operation.{Operation, value, determinant}
 use Rattle.tensor_defs.specs.Tensor.{Marks, sign, axial_sign, time_sign}
 use Rattle.tensor_defs.specs.declared.Sign.{Sign}
 use Rattle.tensor_defs.specs.declared.Sign.TheVariants.{Plus, Minus}
 use Rattle.number_laws.proofs.NumberLaws.{num_mul-one, num_one-mul, num_mul_assoc, num_neg-neg-one}
-use Rattle.number_laws.proofs.Sameness.{numbers_are_same_lem}
+use Rattle.number_laws.proofs.Sameness.{whole_told}
 use Rattle.op_matrix.specs.Table.{nth_operation}
-use Rattle.op_matrix.proofs.Facts.{det_at, negative_code}
 use Rattle.sign_moves.specs.Signs.{signed, times}
 
-by_code : (g : Operation) (k : ℕ) (b : Bool) → k < 128 → g ≡ nth_operation k → negative_code (k / 2) ≡ b →
-    (determinant (value g) ≡ whole (pos 1)) ⊎ (determinant (value g) ≡ whole (negsuc 0))
-unfolding nth_operation
-by_code g k true h e f = inr (det_at (k / 2) (nat_eq (k % 2) 1) true g (negsuc 0) (omega arith) (sym e) f refl)
-by_code g k false h e f = inl (det_at (k / 2) (nat_eq (k % 2) 1) false g (pos 1) (omega arith) (sym e) f refl)
-
-unit_determinant : (g : Operation) (k : ℕ) → k < 128 → g ≡ nth_operation k →
-    (determinant (value g) ≡ whole (pos 1)) ⊎ (determinant (value g) ≡ whole (negsuc 0))
-unit_determinant g k h e = by_code g k (negative_code (k / 2)) h e refl
-
-one_down : whole (negsuc 0) ≡ neg num_one
+pub one_down : whole (negsuc 0) ≡ neg num_one
 one_down = sym (num_mul-one (whole (negsuc 0)))
-
-whole_told : (d e : ℤ) → whole d ≡ whole e → d ≡ e
-unfolding whole
-whole_told d e p =
-    let same = (numbers_are_same_lem _ _).0 p in
-    sym (mul-one_ℤ d) ∙ same.same_p ∙ mul-one_ℤ e
 
 -- whether a determinant, as the code holds it, is below 0
 abbrev below_zero : ℤ → Bool

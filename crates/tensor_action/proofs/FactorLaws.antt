@@ -1,4 +1,12 @@
 -- Products of entries as numbers.
+--   halved_is, turned_is, one_is    one more entry
+--   one_number, zero_number, minus_one_number, minus_half_number, minus_root_number, with_minus
+--       the numbers of entries
+--   new_is_ok, signed-root    fractions of small whole numbers
+--   entry_is    entries at the indices of components
+--   product-start, product-more, product-zero, product-end    the coefficient, one place after the other
+--   within-weaker, within-place, within-more    bounds
+--   signed_factor    the sign before a product
 use Rattle.std.proofs.Common.{◌≡◌, ℕ, suc, ◌+◌, ◌-◌, ◌*◌, ◌<◌, ◌≤◌, ◌^◌, inl, inr, length, drop, refl, ap, sym, ◌∙◌, subst, arith, lit<, Result, Ok, Err}
 use Rattle.std.proofs.Math.Nat.{dvd-mul_left, le_of_mul-le-mul_right, mul-le-mul_left, pow-le-pow_right, pow-suc}
 use Rattle.std.proofs.lemmas.Int.{unsigned_abs-mul}
@@ -91,7 +99,7 @@ pub with_minus : (x y n e m : Number) → n ≡ neg y → y ≡ mul x e → m �
 with_minus x y n e m p q r = p ∙ ap neg q ∙ num_mul_left_comm _ x e ∙ ap (mul x) (sym r)
 
 -- ---- fractions of small whole numbers
-small-calm : (p : ℤ) (d : ℕ) → 0 < d → unsigned_abs p < limit → d < limit → ReachesLimit (over p d) → ⊥
+pub small-calm : (p : ℤ) (d : ℕ) → 0 < d → unsigned_abs p < limit → d < limit → ReachesLimit (over p d) → ⊥
 small-calm p d h small below r =
     let f = r.parts in
     let t = r.is_parts.terms in

@@ -1,10 +1,10 @@
 -- The indices of a rank by their numbers, and sums over them.
-use Rattle.std.proofs.Common.{◌≡◌, ℕ, zero, suc, ◌+◌, ◌-◌, ◌*◌, ◌/◌, ◌%◌, ◌<◌, ◌^◌, inl, inr, List, [], ◌∷◌, ◌++◌, length, map, get_or, take, refl, ap, sym, ◌∙◌, subst, arith, length-append}
+use Rattle.std.proofs.Common.{◌≡◌, ℕ, zero, suc, ◌+◌, ◌-◌, ◌*◌, ◌<◌, ◌^◌, inl, inr, List, [], ◌∷◌, ◌++◌, length, map, get_or, take, refl, ap, sym, ◌∙◌, subst, arith, length-append}
 use Rattle.std.proofs.Math.ListN.{get_or-append}
 use Rattle.std.proofs.Math.Nat.{pow-suc}
 use Rattle.std.proofs.lemmas.Bool.{cases_lt}
 use Rattle.std.proofs.lemmas.List.{get_or-append_right, get_or-map, length-map, take_more}
-use Rattle.std.proofs.lemmas.Nat.{div-mul-add, mod-mul-add}
+use Rattle.tensor_laws.proofs.ComponentNumbers.{index_at}
 use Rattle.tensor_defs.specs.Number.{Number, add}
 use Rattle.tensor_defs.specs.Operation.{Axis, x1, x2, x3}
 use Rattle.tensor_defs.specs.StateRows.{sum_of}
@@ -28,12 +28,6 @@ length-indices (suc r) =
       length-map (indices r) (λ js. x2 ∷ js),
       length-map (indices r) (λ js. x3 ∷ js),
     )
-
-index_at : (r a n c : ℕ) → c < 3 ^ r → n ≡ a * 3 ^ r + c → index_of (suc r) n ≡ axis_at a ∷ index_of r c
-index_at r a n c h e =
-    let q : n / 3 ^ r ≡ a = ap (λ x. x / 3 ^ r) e ∙ div-mul-add a (3 ^ r) c h in
-    let m : n % 3 ^ r ≡ c = ap (λ x. x % 3 ^ r) e ∙ mod-mul-add a (3 ^ r) c h in
-    λ i. axis_at (q i) ∷ index_of r (m i)
 
 length-after : (i : Axis) (r : ℕ) → length (after i r) ≡ 3 ^ r
 length-after i r = length-map (indices r) (λ js. i ∷ js) ∙ length-indices r

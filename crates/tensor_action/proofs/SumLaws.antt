@@ -1,4 +1,7 @@
 -- Sums of products, one product after the other, and where they grow.
+--   root-value, held_calm    0 and numbers that are held
+--   adds-zero, adds-err, adds-sum    a sum with one more product
+--   IsSummed, summed-start, summed-more, summed-grows, summed-end, summed-calm    the sum of the first n products
 use Rattle.std.proofs.Common.{◌≡◌, ℕ, ◌+◌, ◌<◌, ◌≤◌, ◌^◌, ◌⊎◌, inl, inr, take, ap, sym, ◌∙◌, subst, arith, lit<, Result, Ok, Err}
 use Rattle.std.proofs.lemmas.Bool.{false≢true, cases_lt}
 use Rattle.std.proofs.lemmas.List.{take_all}
@@ -22,13 +25,13 @@ use Rattle.tensor_action.specs.Acting.{AddsPart, SumGrows}
 use Rattle.tensor_action.proofs.IndexPlaces.{length-indices, sum_more}
 
 -- ---- 0 and numbers that are held
-zero_held : IsHeldAs num_zero zero_over_one
+pub zero_held : IsHeldAs num_zero zero_over_one
 zero_held = record {
   same = sym (over-zero 1);
   held = record { terms = record { positive = lit< tt; lowest = gcd-one 0 }; small_num = lit< tt; small_den = lit< tt };
 }
 
-zero_has : HasParts num_zero num_zero num_zero
+pub zero_has : HasParts num_zero num_zero num_zero
 zero_has = record {
   fraction_a = zero_over_one;
   fraction_b = zero_over_one;
@@ -37,7 +40,7 @@ zero_has = record {
   same = sym zero-parts;
 }
 
-zero_small : (x : Number) → x ≡ num_zero → ReachesLimit x → ⊥
+pub zero_small : (x : Number) → x ≡ num_zero → ReachesLimit x → ⊥
 zero_small x e r = held-not_large x zero_over_one (record { same = e ∙ zero_held.same; held = zero_held.held }) r
 
 pub root-value : (x : Number) (v : Root3) → IsHeldRoot x v → value_of_root v ≡ x
@@ -53,13 +56,13 @@ held_calm x v h p =
       | inr l ↦ held-not_large p.1 v.b (record { same = e.1 ∙ i.is_b.same; held = h.held.held_b }) l
     ]
 
-zero_part_calm : (x : Number) → x ≡ num_zero → PartReaches x → ⊥
+pub zero_part_calm : (x : Number) → x ≡ num_zero → PartReaches x → ⊥
 zero_part_calm x z p =
     let e = one-parts num_zero p.0 p.1 num_zero num_zero (subst (λ y. HasParts y p.0 p.1) z p.2) zero_has in
     elim p.3 as (λ _. ⊥) [ inl l ↦ zero_small p.0 e.0 l | inr l ↦ zero_small p.1 e.1 l ]
 
 -- a product with 0 reaches the limit nowhere
-zero_product_calm : (x y : Number) → x ≡ num_zero → ProductReaches x y → ⊥
+pub zero_product_calm : (x y : Number) → x ≡ num_zero → ProductReaches x y → ⊥
 zero_product_calm x y z p =
     let a = p.0 in
     let b = p.1 in

@@ -1,3 +1,4 @@
+//! Why a tensor isn't carried.
 use std::alloc::{AllocError, AllocFailed};
 use thiserror::Error;
 

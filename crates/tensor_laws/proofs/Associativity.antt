@@ -1,22 +1,13 @@
 -- Products are associative.
-use Rattle.std.proofs.Common.{◌≡◌, Bool, true, false, refl, ap, sym, ◌∙◌}
+use Rattle.std.proofs.Common.{◌≡◌, ap, sym, ◌∙◌}
 use mathlib.Core.Bool.{xor}
+use Rattle.list_laws.proofs.Tests.{xor_assoc}
 use Rattle.number_laws.proofs.NumberLaws.{ring}
 use Rattle.tensor_defs.specs.Number.{Number, add, mul}
 use Rattle.tensor_defs.specs.Operation.{x1, x2, x3, sum_axes, Operation, value, IsProduct}
 
-xor_assoc : (a b c : Bool) → xor (xor a b) c ≡ xor a (xor b c)
-unfolding xor
-xor_assoc true true true = refl
-xor_assoc true true false = refl
-xor_assoc true false true = refl
-xor_assoc true false false = refl
-xor_assoc false true true = refl
-xor_assoc false true false = refl
-xor_assoc false false true = refl
-xor_assoc false false false = refl
-
-exchange : (a b c p q r s t u v w x y1 y2 y3 : Number) →
+-- the sums of a product of three, in another order
+pub exchange : (a b c p q r s t u v w x y1 y2 y3 : Number) →
     add (mul (add (mul a p) (add (mul b s) (mul c v))) y1)
     (add (mul (add (mul a q) (add (mul b t) (mul c w))) y2)
     (mul (add (mul a r) (add (mul b u) (mul c x))) y3))

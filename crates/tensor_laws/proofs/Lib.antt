@@ -11,3 +11,5 @@ pub mod Agreeing
 pub mod WordRows
 pub mod ComponentNumbers
 pub mod BlockOrder
+pub mod Indices
+pub mod Sets

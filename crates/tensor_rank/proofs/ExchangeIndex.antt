@@ -1,4 +1,8 @@
 -- The exchanges of index lists are those of component numbers.
+--   its_exchange, length_exchanged, its_within, exchange_index, CanExchange, can_exchange
+--       an exchange of index lists
+--   IsListed, listed_left, listed_right, two_listed, each_exchange, numbered ..
+--       the list of the exchanges of brackets
 use Rattle.std.proofs.Common.{◌≡◌, ℕ, zero, suc, ◌+◌, ◌-◌, ◌*◌, ◌^◌, ◌<◌, ◌≤◌, Bool, true, false, cond, List, [], ◌∷◌, ◌++◌, length, take, drop, refl, ap, sym, ◌∙◌, arith, subst, inl, inr, ◌⊎◌}
 use Rattle.std.specs.Prelude.{Contains}
 use Rattle.std.proofs.lemmas.Bool.{cases_lt}
@@ -23,23 +27,23 @@ use Rattle.tensor_rank.specs.IndexLaws.{nth, index_number_at, component_below_at
 use Rattle.std.proofs.lemmas.List.{get_or_append_left, get_or-append-add, take-append-drop, length-append, length-take-le, length-drop, append_assoc}
 
 -- ---- parts of a list
-at_1 : (a rest : Index) (p : ℕ) → p < length a → nth (a ++ rest) p ≡ nth a p
-at_1 a rest p h = get_or_append_left a rest x1 p h
+in_first : (a rest : Index) (p : ℕ) → p < length a → nth (a ++ rest) p ≡ nth a p
+in_first a rest p h = get_or_append_left a rest x1 p h
 
 past : (a rest : Index) (p q : ℕ) → p ≡ length a + q → nth (a ++ rest) p ≡ nth rest q
 past a rest p q e = ap (nth (a ++ rest)) e ∙ get_or-append-add a rest q x1
 
-at_2 : (a b rest : Index) (p q : ℕ) → p ≡ length a + q → q < length b → nth (a ++ (b ++ rest)) p ≡ nth b q
-at_2 a b rest p q e h = past a (b ++ rest) p q e ∙ at_1 b rest q h
+in_second : (a b rest : Index) (p q : ℕ) → p ≡ length a + q → q < length b → nth (a ++ (b ++ rest)) p ≡ nth b q
+in_second a b rest p q e h = past a (b ++ rest) p q e ∙ in_first b rest q h
 
-at_3 : (a b c rest : Index) (p q : ℕ) → p ≡ length a + (length b + q) → q < length c → nth (a ++ (b ++ (c ++ rest))) p ≡ nth c q
-at_3 a b c rest p q e h = past a (b ++ (c ++ rest)) p (length b + q) e ∙ at_2 b c rest (length b + q) q refl h
+in_third : (a b c rest : Index) (p q : ℕ) → p ≡ length a + (length b + q) → q < length c → nth (a ++ (b ++ (c ++ rest))) p ≡ nth c q
+in_third a b c rest p q e h = past a (b ++ (c ++ rest)) p (length b + q) e ∙ in_second b c rest (length b + q) q refl h
 
-at_4 : (a b c d rest : Index) (p q : ℕ) → p ≡ length a + (length b + (length c + q)) → q < length d → nth (a ++ (b ++ (c ++ (d ++ rest)))) p ≡ nth d q
-at_4 a b c d rest p q e h = past a (b ++ (c ++ (d ++ rest))) p (length b + (length c + q)) e ∙ at_3 b c d rest (length b + (length c + q)) q refl h
+in_fourth : (a b c d rest : Index) (p q : ℕ) → p ≡ length a + (length b + (length c + q)) → q < length d → nth (a ++ (b ++ (c ++ (d ++ rest)))) p ≡ nth d q
+in_fourth a b c d rest p q e h = past a (b ++ (c ++ (d ++ rest))) p (length b + (length c + q)) e ∙ in_third b c d rest (length b + (length c + q)) q refl h
 
-at_5 : (a b c d rest : Index) (p q : ℕ) → p ≡ length a + (length b + (length c + (length d + q))) → nth (a ++ (b ++ (c ++ (d ++ rest)))) p ≡ nth rest q
-at_5 a b c d rest p q e = past a (b ++ (c ++ (d ++ rest))) p (length b + (length c + (length d + q))) e ∙ past b (c ++ (d ++ rest)) (length b + (length c + (length d + q))) (length c + (length d + q)) refl ∙ past c (d ++ rest) (length c + (length d + q)) (length d + q) refl ∙ past d rest (length d + q) q refl
+in_fifth : (a b c d rest : Index) (p q : ℕ) → p ≡ length a + (length b + (length c + (length d + q))) → nth (a ++ (b ++ (c ++ (d ++ rest)))) p ≡ nth rest q
+in_fifth a b c d rest p q e = past a (b ++ (c ++ (d ++ rest))) p (length b + (length c + (length d + q))) e ∙ past b (c ++ (d ++ rest)) (length b + (length c + (length d + q))) (length c + (length d + q)) refl ∙ past c (d ++ rest) (length c + (length d + q)) (length d + q) refl ∙ past d rest (length d + q) q refl
 
 -- ---- where a place goes
 abbrev swap : ℕ → ℕ → ℕ → Bool → Exchange
@@ -62,26 +66,26 @@ five a u k v z f s w n la lu lv lk p =
     let apart : f + w ≤ s = omega arith in
     elim (cases_lt p f) [
       | inl h ↦
-          at_1 a (v ++ (k ++ (u ++ z))) p (omega arith) ∙ sym (at_1 a (u ++ (k ++ (v ++ z))) p (omega arith))
+          in_first a (v ++ (k ++ (u ++ z))) p (omega arith) ∙ sym (in_first a (u ++ (k ++ (v ++ z))) p (omega arith))
           ∙ ap (nth (a ++ (u ++ (k ++ (v ++ z))))) (sym (outside f s w p n apart (inl h)))
       | inr h ↦ elim (cases_lt p (f + w)) [
         | inl l ↦
             let goes : partner (swap f s w n) p ≡ p + (s - f) = from_first f s w p n apart h l in
-            at_2 a v (k ++ (u ++ z)) p (p - f) (omega arith) (omega arith)
-            ∙ sym (at_4 a u k v z (partner (swap f s w n) p) (p - f) (goes ∙ omega arith) (omega arith))
+            in_second a v (k ++ (u ++ z)) p (p - f) (omega arith) (omega arith)
+            ∙ sym (in_fourth a u k v z (partner (swap f s w n) p) (p - f) (goes ∙ omega arith) (omega arith))
         | inr l ↦ elim (cases_lt p s) [
           | inl m ↦
-              at_3 a v k (u ++ z) p (p - (f + w)) (omega arith) (omega arith)
-              ∙ sym (at_3 a u k (v ++ z) p (p - (f + w)) (omega arith) (omega arith))
+              in_third a v k (u ++ z) p (p - (f + w)) (omega arith) (omega arith)
+              ∙ sym (in_third a u k (v ++ z) p (p - (f + w)) (omega arith) (omega arith))
               ∙ ap (nth (a ++ (u ++ (k ++ (v ++ z))))) (sym (outside f s w p n apart (inr (inl (l, m)))))
           | inr m ↦ elim (cases_lt p (s + w)) [
             | inl q ↦
                 let goes : partner (swap f s w n) p ≡ p - (s - f) = from_second f s w p n apart m q in
-                at_4 a v k u z p (p - s) (omega arith) (omega arith)
-                ∙ sym (at_2 a u (k ++ (v ++ z)) (partner (swap f s w n) p) (p - s) (goes ∙ omega arith) (omega arith))
+                in_fourth a v k u z p (p - s) (omega arith) (omega arith)
+                ∙ sym (in_second a u (k ++ (v ++ z)) (partner (swap f s w n) p) (p - s) (goes ∙ omega arith) (omega arith))
             | inr q ↦
-                at_5 a v k u z p (p - (s + w)) (omega arith)
-                ∙ sym (at_5 a u k v z p (p - (s + w)) (omega arith))
+                in_fifth a v k u z p (p - (s + w)) (omega arith)
+                ∙ sym (in_fifth a u k v z p (p - (s + w)) (omega arith))
                 ∙ ap (nth (a ++ (u ++ (k ++ (v ++ z))))) (sym (outside f s w p n apart (inr (inr q))))
           ]
         ]

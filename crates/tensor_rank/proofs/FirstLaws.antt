@@ -1,8 +1,7 @@
 -- The first component of a class, found among those below an end.
 use Rattle.std.proofs.Common.{◌≡◌, ℕ, ◌+◌, ◌^◌, ◌<◌, ◌≤◌, Bool, true, false, List, refl, ap, sym, ◌∙◌, arith, subst, inl, inr}
 use Rattle.std.specs.Prelude.{nat_lt}
-use Rattle.std.proofs.lemmas.Bool.{cases_lt, le-ltb}
-use Rattle.sign_moves.proofs.EngineLaws.{bool_cases}
+use Rattle.std.proofs.lemmas.Bool.{cases_lt, le-ltb, cases_Bool}
 use Rattle.sign_moves.specs.Classes.{first_at}
 use Rattle.sign_moves.specs.Firsts.{IsStrict}
 use Rattle.sign_moves.specs.declared.classes.Entry.{Entry}
@@ -37,7 +36,7 @@ module _ {n : ℕ} {es : List Entry} {before : ℕ → ℕ → Bool} where
   })
     where
       not_before : (e : ℕ) → before e best ≡ false → before e end ≡ false
-      not_before e old = elim (bool_cases (before e end)) as (λ _. before e end ≡ false) [
+      not_before e old = elim (cases_Bool (before e end)) as (λ _. before e end ≡ false) [
         | inl p ↦ let clash : before e best ≡ true = strict.transitive e end best p better in absurd (cc)
         | inr p ↦ p
       ]

@@ -1,9 +1,13 @@
 -- Orders by the index digits and by blocks.
-use Rattle.std.proofs.Common.{◌≡◌, ◌≢◌, ℕ, zero, suc, ◌+◌, ◌-◌, ◌*◌, ◌^◌, ◌<◌, ◌≤◌, true, false, List, [], ◌∷◌, ◌++◌, length, get_or, drop, drop-cons, add-one, zero-add, map, refl, ap, sym, ◌∙◌, arith, subst, inl, inr}
+--   numbers_tell, index_order_at    index order is the order of component numbers
+--   rest_none, blocks_next, blocks_before, rest_same, rest_differs    block order, block by block
+--   front_one, front_two, pair_same, pair_other, by_index    the number of one block
+use Rattle.std.proofs.Common.{◌≡◌, ◌≢◌, ℕ, zero, suc, ◌+◌, ◌-◌, ◌*◌, ◌^◌, ◌<◌, ◌≤◌, true, false, List, [], ◌∷◌, ◌++◌, length, get_or, drop, drop-cons, add-one, map, refl, ap, sym, ◌∙◌, arith, subst, inl, inr}
 use Rattle.std.specs.Prelude.{nat_lt}
 use Rattle.std.proofs.lemmas.Bool.{cases_lt, lt-ltb, le-ltb}
 use Rattle.std.proofs.lemmas.Bool.Decides.{nat_tests}
-use Rattle.std.proofs.lemmas.List.{length-drop}
+use Rattle.std.proofs.lemmas.List.{length-drop, drop_more, drop-drop}
+use Rattle.tensor_laws.proofs.BlockOrder.{lexicographic_same}
 use Rattle.tensor_defs.specs.Lists.{lexicographic}
 use Rattle.tensor_defs.specs.Operation.{x1, x2, x3, Axis}
 use Rattle.tensor_defs.specs.Orders.{index_before, block_numbers, pair_number}
@@ -108,25 +112,11 @@ rest_front : (bs : List ℕ) (w : ℕ) (is js a b : Index) → IsBlock w → w �
 rest_front bs w is js a b h l m =
     λ i. lexicographic (block_front bs w is h l i ++ map digit a) (block_front bs w js h m i ++ map digit b)
 
-lex_same : (p q : ℕ) (ps qs : List ℕ) → p ≡ q → lexicographic (p ∷ ps) (q ∷ qs) ≡ lexicographic ps qs
-lex_same p q ps qs e = grind (arith, nat_tests)
-
 lex_differs : (p q : ℕ) (ps qs : List ℕ) → p ≢ q → lexicographic (p ∷ ps) (q ∷ qs) ≡ nat_lt p q
 lex_differs p q ps qs n = elim (cases_lt p q) as (λ _. lexicographic (p ∷ ps) (q ∷ qs) ≡ nat_lt p q) [
   | inl h ↦ grind (arith, nat_tests)
   | inr h ↦ grind (arith, nat_tests)
 ]
-
-drop_none : (n : ℕ) → drop {A = Axis} n [] ≡ []
-drop_none zero = refl
-drop_none (suc n) = refl
-
-drop_more : (l : Index) (s w : ℕ) → drop w (drop s l) ≡ drop (s + w) l
-drop_more l zero w = ap (λ k. drop k l) (sym (zero-add w))
-drop_more [] (suc s) w = drop_none w ∙ sym (drop_none (suc s + w))
-drop_more (x ∷ l) (suc s) w =
-    let e : suc (s + w) ≡ suc s + w = omega arith in
-    drop_more l s w ∙ ap (λ k. drop k (x ∷ l)) e
 
 -- the blocks from the place i on
 pub blocks_next : (r : ℕ) (ws : List ℕ) (i : ℕ) → i < length ws → AreBlocks r (drop i ws) →
@@ -146,43 +136,39 @@ blocks_before r ws i h block room rest =
     first : (w : ℕ) (rest : List ℕ) → IsBlock w → w ≤ r → AreBlocks (r - w) rest → AreBlocks r (w ∷ rest)
     first w rest b l f = let e : total rest ≡ r - w = f.1 in ((b, f.0), omega (arith, e, l))
 
-split : (ws : List ℕ) (i : ℕ) → i < length ws → drop i ws ≡ get_or ws i 0 ∷ drop (i + 1) ws
-split ws i h = rw add-one (drop-cons ws i 0 h)
+module _ (r : ℕ) (ws : List ℕ) (i s : ℕ) (a b : Index) (h : i < length ws) (la : length a ≡ r) (lb : length b ≡ r) (below : s ≤ r)
+    (fit : AreBlocks (r - s) (drop i ws)) where
+  -- the block at the place i, and the blocks behind it
+  rest_split : rest_before (drop i ws) (drop s a) (drop s b) a b ≡
+      lexicographic (front_number (get_or ws i 0) (drop s a) ∷ (block_numbers (drop (i + 1) ws) (drop (get_or ws i 0) (drop s a)) ++ map digit a))
+      (front_number (get_or ws i 0) (drop s b) ∷ (block_numbers (drop (i + 1) ws) (drop (get_or ws i 0) (drop s b)) ++ map digit b))
+  rest_split =
+      let w = get_or ws i 0 in
+      let n = blocks_next (r - s) ws i h fit in
+      let room : w ≤ r - s = n.1 in
+      let la_s = length-drop s a in
+      let lb_s = length-drop s b in
+      let ra : w ≤ length (drop s a) = omega (arith, room, la_s, la) in
+      let rb : w ≤ length (drop s b) = omega (arith, room, lb_s, lb) in
+      ap (λ bs. rest_before bs (drop s a) (drop s b) a b) (drop_more ws i 0 h)
+      ∙ rest_front (drop (i + 1) ws) w (drop s a) (drop s b) a b n.0 ra rb
 
-pub rest_same : (r : ℕ) (ws : List ℕ) (i s : ℕ) (a b : Index) → i < length ws → length a ≡ r → length b ≡ r →
-    s ≤ r → AreBlocks (r - s) (drop i ws) →
-    front_number (get_or ws i 0) (drop s a) ≡ front_number (get_or ws i 0) (drop s b) →
-    rest_before (drop i ws) (drop s a) (drop s b) a b ≡
-    rest_before (drop (i + 1) ws) (drop (s + get_or ws i 0) a) (drop (s + get_or ws i 0) b) a b
-rest_same r ws i s a b h la lb below fit same =
-    let w = get_or ws i 0 in
-    let n = blocks_next (r - s) ws i h fit in
-    let room : w ≤ r - s = n.1 in
-    let la_s = length-drop s a in
-    let lb_s = length-drop s b in
-    let ra : w ≤ length (drop s a) = omega (arith, room, la_s, la) in
-    let rb : w ≤ length (drop s b) = omega (arith, room, lb_s, lb) in
-    ap (λ bs. rest_before bs (drop s a) (drop s b) a b) (split ws i h)
-    ∙ rest_front (drop (i + 1) ws) w (drop s a) (drop s b) a b n.0 ra rb
-    ∙ lex_same _ _ (block_numbers (drop (i + 1) ws) (drop w (drop s a)) ++ map digit a) (block_numbers (drop (i + 1) ws) (drop w (drop s b)) ++ map digit b) same
-    ∙ (λ k. rest_before (drop (i + 1) ws) (drop_more a s w k) (drop_more b s w k) a b)
+  pub rest_same : front_number (get_or ws i 0) (drop s a) ≡ front_number (get_or ws i 0) (drop s b) →
+      rest_before (drop i ws) (drop s a) (drop s b) a b ≡
+      rest_before (drop (i + 1) ws) (drop (s + get_or ws i 0) a) (drop (s + get_or ws i 0) b) a b
+  rest_same same =
+      let w = get_or ws i 0 in
+      rest_split
+      ∙ lexicographic_same _ _ (block_numbers (drop (i + 1) ws) (drop w (drop s a)) ++ map digit a) (block_numbers (drop (i + 1) ws) (drop w (drop s b)) ++ map digit b) same
+      ∙ (λ k. rest_before (drop (i + 1) ws) (drop-drop w s a k) (drop-drop w s b k) a b)
 
-pub rest_differs : (r : ℕ) (ws : List ℕ) (i s : ℕ) (a b : Index) → i < length ws → length a ≡ r → length b ≡ r →
-    s ≤ r → AreBlocks (r - s) (drop i ws) →
-    front_number (get_or ws i 0) (drop s a) ≢ front_number (get_or ws i 0) (drop s b) →
-    rest_before (drop i ws) (drop s a) (drop s b) a b ≡
-    nat_lt (front_number (get_or ws i 0) (drop s a)) (front_number (get_or ws i 0) (drop s b))
-rest_differs r ws i s a b h la lb below fit differs =
-    let w = get_or ws i 0 in
-    let n = blocks_next (r - s) ws i h fit in
-    let room : w ≤ r - s = n.1 in
-    let la_s = length-drop s a in
-    let lb_s = length-drop s b in
-    let ra : w ≤ length (drop s a) = omega (arith, room, la_s, la) in
-    let rb : w ≤ length (drop s b) = omega (arith, room, lb_s, lb) in
-    ap (λ bs. rest_before bs (drop s a) (drop s b) a b) (split ws i h)
-    ∙ rest_front (drop (i + 1) ws) w (drop s a) (drop s b) a b n.0 ra rb
-    ∙ lex_differs _ _ (block_numbers (drop (i + 1) ws) (drop w (drop s a)) ++ map digit a) (block_numbers (drop (i + 1) ws) (drop w (drop s b)) ++ map digit b) differs
+  pub rest_differs : front_number (get_or ws i 0) (drop s a) ≢ front_number (get_or ws i 0) (drop s b) →
+      rest_before (drop i ws) (drop s a) (drop s b) a b ≡
+      nat_lt (front_number (get_or ws i 0) (drop s a)) (front_number (get_or ws i 0) (drop s b))
+  rest_differs differs =
+      let w = get_or ws i 0 in
+      rest_split
+      ∙ lex_differs _ _ (block_numbers (drop (i + 1) ws) (drop w (drop s a)) ++ map digit a) (block_numbers (drop (i + 1) ws) (drop w (drop s b)) ++ map digit b) differs
 
 -- ---- the number of one block
 pub front_one : (is : Index) (s : ℕ) → s < length is → front_number 1 (drop s is) ≡ digit (nth is s)

@@ -1,4 +1,7 @@
 -- What a shape's table of classes tells of the component lists with the index symmetry of a symbol.
+--   own_exchanges, own_moves, Lands, carried_join, ReachesIndex, carried_reaches ..
+--       steps along exchanges of a symbol are moves of component numbers
+--   entry_is, first_of_below, none_told, some_told    what is read of a table
 use Rattle.std.proofs.Common.{◌≡◌, ℕ, zero, suc, ◌^◌, ◌<◌, Bool, true, false, List, [], ◌∷◌, ◌++◌, length, get_or, refl, ap, sym, ◌∙◌, arith, subst}
 use Rattle.std.specs.Prelude.{Contains, Some, None, ◌↔◌}
 use Rattle.tensor_defs.specs.Jahn.{JahnSymbol, Bracket, rank, body_brackets, HasSymmetry}
@@ -14,6 +17,7 @@ use Rattle.sign_moves.proofs.FirstLaws.{tables_tell}
 use Rattle.sign_moves.proofs.ClassLaws.{reached_first}
 use Rattle.sign_moves.proofs.JoinedLaws.{kept_again}
 use Rattle.std.proofs.lemmas.List.{get_or_default}
+use Rattle.std.proofs.lemmas.Bool.{both_ways}
 use Rattle.tensor_defs.specs.Lists.{Each}
 use Rattle.tensor_rank.proofs.ExchangeLaws.{exchanged_below}
 use Rattle.tensor_rank.specs.declared.exchanges.Exchange.{Exchange}
@@ -91,9 +95,6 @@ pub record ShapeTells (j : JahnSymbol) (n r : ℕ) (table : List Entry) (c : ℕ
   pub first : (o : Ordering) (d : ℕ) (s : Sign) → IsFirstOfClass n table (before_at r o) c d s →
       IsFirstCarried (Exchanges j) (HasSymmetry j) (before_of o) (index_of r c) (index_of r d) s
 
-not_both : (b : Bool) → b ≡ false → b ≡ true → ⊥
-not_both b f t = cc
-
 module _ (j : JahnSymbol) (inside : AllWithin (rank j) (own_exchanges j)) (back : IsReversible (3 ^ rank j) (own_moves j)) where
   pub path_carried : {c d : ℕ} {u : Sign} → Reaches (own_moves j) c d u → c < 3 ^ rank j →
       Carried (Exchanges j) (index_of (rank j) c) (index_of (rank j) d)
@@ -129,7 +130,7 @@ module _ (j : JahnSymbol) (inside : AllWithin (rank j) (own_exchanges j)) (back 
         let no : before_of o (index_of (rank j) (component_number e)) (index_of (rank j) d) ≡ false = h.first (component_number e) there.sign from_c in
         let here : before_of o e (index_of (rank j) d) ≡ false =
         ap (λ x. before_of o x (index_of (rank j) d)) (sym (index_number_at (rank j) e there.of_rank)) ∙ no in
-        not_both (before_of o e (index_of (rank j) d)) here less;
+        both_ways (before_of o e (index_of (rank j) d)) here less;
     same = λ t k. h.same (numbered (rank j) t) (symmetry_kept t k);
   }
 
@@ -176,6 +177,6 @@ pub some_told : {j : JahnSymbol} {n r : ℕ} {table : List Entry} {c : ℕ} → 
     vanishes_at table (first_at table c) ≡ false → (d : ℕ) (s : Sign) → IsFirstOfClass n table (before_at r o) c d s →
     TellsClass (Exchanges j) (HasSymmetry j) (before_of o) r c (Some (d, s))
 some_told {table = table} {c = c} told o v d s f = record {
-  none = (λ e. absurd (cc), λ z. absurd (not_both (vanishes_at table (first_at table c)) v (told.zero.1 z)));
+  none = (λ e. absurd (cc), λ z. absurd (both_ways (vanishes_at table (first_at table c)) v (told.zero.1 z)));
   some = told.first o d s f;
 }

@@ -1,4 +1,5 @@
 -- The exchanges of a symbol lie within its index places, and the code lists those of its brackets.
+--   append_none, body_same, whole_within    the exchanges of brackets
 use Rattle.std.proofs.Common.{◌≡◌, ℕ, ◌+◌, ◌-◌, ◌*◌, ◌<◌, ◌≤◌, Bool, false, List, [], ◌∷◌, ◌++◌, length, zero, suc, arith, ap, sym, ◌∙◌, refl, subst, inl, inr, length-append}
 use Rattle.std.proofs.Math.Nat.{suc-mul, mul-le-mul_right}
 use Rattle.std.proofs.lemmas.Bool.{cases_lt}

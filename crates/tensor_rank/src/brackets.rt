@@ -1,11 +1,12 @@
+//! The exchanges of the blocks of brackets.
 ghost use Rattle.std.specs.Prelude.{◌≡◌, ℕ, ◌+◌, ◌*◌, ◌<◌, ◌≤◌, ◌++◌, OnOk, List, [], false, true};
 ghost use Rattle.tensor_defs.specs.Jahn.{BracketKind, IsAtom, IsFactor, atom_rank, factors_rank, body_brackets, is_antisymmetric};
 ghost use Rattle.jahn_grammar.specs.Trees.{AreFactorTrees, atom_of, factor_of, factors_of};
 ghost use Rattle.tensor_rank.specs.Symmetry.{at_each, atom_exchanges, bracket_at, each_two, exchanges_of, with_earlier};
 
 use crate::exchanges::Exchange;
-use crate::memory::NoMemory;
 use jahn_grammar::{Atom, Factor, Factors};
+use sign_moves::NoMemory;
 
 /// Appends the exchanges of one block of a bracket with each block before it.
 fn push_with_earlier(

@@ -1,3 +1,4 @@
+//! Components of a typed rank, by their numbers and their axes.
 ghost use Rattle.std.specs.Prelude.{◌≡◌, ℕ, ◌+◌, ◌^◌, ◌<◌, ◌≤◌, IsNone, IfSome, ◌↔◌, get_or};
 ghost use Rattle.tensor_defs.specs.Operation.{x1};
 ghost use Rattle.tensor_defs.specs.Tensor.{digit, index_of};

@@ -1,3 +1,4 @@
+//! Exchanges of two blocks of indices, as moves of components.
 ghost use Rattle.std.specs.Prelude.{◌≡◌, ◌<◌, ◌≤◌, ◌^◌};
 ghost use Rattle.sign_moves.specs.Moves.{IsReversible};
 ghost use Rattle.tensor_rank.specs.Exchanges.{exchange_moves};

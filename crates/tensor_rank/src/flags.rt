@@ -1,3 +1,5 @@
+//! The marks of a Jahn symbol.
+
 /// The marks of a Jahn symbol: `e` (axial) and `a` (magnetic).
 #[derive(Clone, Copy, Debug, PartialEq, Eq, Drop)]
 pub struct Flags {

@@ -1,3 +1,4 @@
+//! Index order and the orders by blocks.
 ghost use Rattle.std.specs.Prelude.{◌≡◌, ℕ, ◌+◌, ◌<◌, ◌≤◌, ◌↔◌, IsNone, IfSome, drop};
 ghost use Rattle.tensor_defs.specs.Orders.{block_before, index_before};
 ghost use Rattle.tensor_defs.specs.Tensor.{index_of};

@@ -1,3 +1,4 @@
+//! Tensor ranks as types.
 ghost use Rattle.std.specs.Prelude.{◌≡◌, ℕ, ◌^◌, ◌<◌, ◌≤◌, refl, length};
 ghost use Rattle.std.proofs.Common.{lit≤};
 ghost use Rattle.tensor_defs.specs.Tensor.{Index, component_number, index_of};

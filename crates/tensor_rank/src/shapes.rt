@@ -1,7 +1,10 @@
+//! A Jahn symbol of a typed rank, and the representatives of its components.
 ghost use Rattle.std.specs.Prelude.{◌≡◌, ℕ, ◌+◌, ◌<◌, ◌≤◌, List, IfOk, length};
 ghost use Rattle.tensor_defs.specs.Jahn.{HasSymmetry, JahnSymbol};
 ghost use Rattle.sign_moves.specs.Classes.{first_at};
+ghost use Rattle.sign_moves.specs.Firsts.{IsFirstTable};
 ghost use Rattle.tensor_rank.specs.Carried.{Exchanges, TellsClass};
+ghost use Rattle.tensor_rank.specs.Exchanges.{exchange_moves};
 ghost use Rattle.tensor_rank.specs.Flags.{marks_of};
 ghost use Rattle.tensor_rank.specs.Orders.{before_at, before_of};
 ghost use Rattle.tensor_rank.specs.Shapes.{IsFirstBelow, IsShapeOf};
@@ -10,10 +13,9 @@ ghost use Rattle.tensor_rank.specs.Within.{AllWithin};
 use crate::components::Comp;
 use crate::exchanges::{Exchange, ExchangeMoves};
 use crate::flags::Flags;
-use crate::memory::NoMemory;
 use crate::orders::Order;
 use crate::ranks::Rank;
-use sign_moves::{Entry, Sign, Tabled, class_table, times};
+use sign_moves::{Entry, NoMemory, Sign, Tabled, class_table, firsts_of_classes, times};
 use std::alloc::Global;
 use std::marker::{Model, PhantomData};
 
@@ -108,6 +110,15 @@ impl<R: Rank> Shape<R> {
         ensures within { AllWithin R.R result.now }
     {
         &self.exchanges
+    }
+
+    /// For each component the first one, in an order, to which exchanges of blocks carry it, with the sign between
+    /// the two, and whether each component list with the symbol's index symmetry is zero there.
+    pub fn firsts(&self, alloc: Global, order: &Order<R>) -> Result<Vec<Entry>, NoMemory>
+        ensures within { AllWithin R.R self.now.exchanges }
+        ensures firsts { IfOk result (λ table. IsFirstTable R.LEN (exchange_moves R.R self.now.exchanges) (before_at R.R order.now) table.items) }
+    {
+        firsts_of_classes(alloc, &self.classes, order)
     }
 
     /// The first component, in an order, to which exchanges of blocks carry c, and the sign between the two in every

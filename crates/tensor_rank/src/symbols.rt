@@ -1,3 +1,4 @@
+//! Jahn symbols compiled to shapes.
 ghost use Rattle.std.specs.Prelude.{◌≡◌, ◌≤◌, IfOk};
 ghost use Rattle.tensor_defs.specs.Jahn.{rank};
 ghost use Rattle.jahn_grammar.specs.Symbols.{symbol_of};
@@ -5,10 +6,10 @@ ghost use Rattle.tensor_rank.specs.AnyShapes.{IsAnyShapeOf};
 
 use crate::brackets::push_body;
 use crate::flags::Flags;
-use crate::memory::NoMemory;
 use crate::ranks::{R0, R1, R2, R3, R4, R5, R6};
 use crate::shapes::Shape;
 use jahn_grammar::Jahn;
+use sign_moves::NoMemory;
 use std::alloc::Global;
 
 /// A shape of some rank.

@@ -1,41 +1,33 @@
 -- The classes with what is told of each.
+--   class_assembled    the same set has the same name
+--   none_earlier, IsEarlier, some_earlier    the answers of the test for an earlier state
+--   IsClassing, classing_none, classing_skip, classing_push, classing_done    the classes of the states up to n
 use Rattle.std.proofs.Common.{◌≡◌, ℕ, ◌+◌, ◌⊎◌, inl, inr, ◌<◌, ◌≤◌, Bool, true, false, List, [], ◌∷◌, ◌++◌, length, refl, ap, sym, arith, subst}
 use Rattle.std.specs.Prelude.{Contains, ◌↔◌, IsTrue, Option, Some, None, nat_lt, not, is_some, get_or}
 use Rattle.std.proofs.lemmas.Bool.Decides.{nat_tests}
 use Rattle.std.proofs.lemmas.List.Elements.{Contains-append_left, Contains-push}
+use Rattle.std.proofs.lemmas.Bool.{cases_lt}
+use Rattle.tensor_laws.proofs.Sets.{name_same}
+use Rattle.list_laws.proofs.Rising.{rising_push}
+use Rattle.list_laws.proofs.Members.{each_push, each_held, each_map}
 use Rattle.tensor_defs.specs.Lists.{Each, IsRising, IsListing}
 use Rattle.tensor_defs.specs.Operation.{Operation}
 use Rattle.tensor_defs.specs.OperationOrder.{comes_before}
 use Rattle.tensor_defs.specs.Symbols.{GroupSymbol}
-use Rattle.tensor_defs.specs.Group.{SameSet}
-use Rattle.tensor_defs.specs.Names.{IsNamed, IsNameOf, symbols}
+use Rattle.tensor_defs.specs.Names.{IsNameOf}
 use Rattle.tensor_defs.specs.States.{InDouble, IsState, IsSwappable, AreStates, InPairGroup, InTwinningGroup}
 use Rattle.tensor_defs.specs.PairClasses.{PairClass, IsPairClass, ArePairClasses, least_before}
 use Rattle.magnetic_groups.specs.Sets.{In, IsGroup, IsWithin, HaveFrame, FitsFrame}
-use Rattle.magnetic_groups.proofs.Reaching.{nat_split}
 use Rattle.coset_states.specs.Numbering.{Cosets}
 use Rattle.twin_pairs.specs.Classes.{TellsEarlier, AreMembers, IsClassFrom}
 use Rattle.twin_pairs.proofs.DoubleCosets.{double_sym, double_trans}
-use Rattle.twin_pairs.proofs.Listings.{push_each, push_rising, map_each, each_of, state_within}
+use Rattle.twin_pairs.proofs.Listings.{state_within}
 
 pub fits_of : (gs fs : List Operation) (g : Operation) → HaveFrame gs → IsWithin fs gs → Contains gs g → FitsFrame fs g
 fits_of gs fs g (inl f) w c = inl (f g c, λ k h. f k (w k h))
 fits_of gs fs g (inr f) w c = inr (f g c, λ k h. f k (w k h))
 
 -- ---- the same set has the same name
-named_by : (H H' : Operation → Type 0) (t : GroupSymbol) → SameSet H H' → IsNamed t H → IsNamed t H'
-named_by H H' t m n = (n.0, λ k. (λ p. (m k).0 ((n.1 k).0 p), λ p. (n.1 k).1 ((m k).1 p)))
-
-other_way : (H H' : Operation → Type 0) → SameSet H H' → SameSet H' H
-other_way H H' m k = ((m k).1, (m k).0)
-
-none_by : (H H' : Operation → Type 0) (t : GroupSymbol) → SameSet H H' → ¬ IsNamed t H → ¬ IsNamed t H'
-none_by H H' t m n h = n (named_by H' H t (other_way H H' m) h)
-
-name_same : (H H' : Operation → Type 0) (o : Option GroupSymbol) → SameSet H H' → IsNameOf o H → IsNameOf o H'
-name_same H H' None m n = map_each (λ u. ¬ IsNamed u H) (λ u. ¬ IsNamed u H') symbols (λ u. none_by H H' u m) n
-name_same H H' (Some t) m n = (n.0, n.1, n.2, named_by H H' t m n.3, map_each (λ u. ¬ IsNamed u H) (λ u. ¬ IsNamed u H') n.0 (λ u. none_by H H' u m) n.4)
-
 pub class_assembled : (c : Cosets) (g : Operation) (k : ℕ) (ms : List ℕ) (b : Bool) (ps ts : List Operation) (pn tn : Option GroupSymbol) → IsState c.reps k g → AreMembers c g k ms → (IsTrue b ↔ IsSwappable (In c.whole) (In c.sub) g) → IsListing comes_before (InPairGroup (In c.sub) g) ps → IsNameOf pn (In ps) → IsListing comes_before (InTwinningGroup (In c.sub) g) ts → IsNameOf tn (In ts) → IsClassFrom c g k (record { members = ms; swappable = b; pair_group = ps; pair_name = pn; twin_group = ts; twin_name = tn })
 class_assembled c g k ms b ps ts pn tn is a s p pi t ti = (
   record {
@@ -82,12 +74,12 @@ module _ (c : Cosets) (ig : IsGroup c.whole) (jf : IsGroup c.sub) (w : IsWithin 
   classing_none ds e = subst (IsClassing c 0) (sym e) (record { each = tt; rising = tt; below = tt; whole = λ k lo hi. absurd (omega arith) })
 
   more_below : (n : ℕ) (ds : List PairClass) → Each (λ d. get_or d.members 0 0 ≤ n) ds → Each (λ d. get_or d.members 0 0 ≤ n + 1) ds
-  more_below n ds e = map_each (λ d. get_or d.members 0 0 ≤ n) (λ d. get_or d.members 0 0 ≤ n + 1) ds (λ d p. omega arith) e
+  more_below n ds e = each_map (λ d. get_or d.members 0 0 ≤ n) (λ d. get_or d.members 0 0 ≤ n + 1) (λ d p. omega arith) ds e
 
   -- a state with an earlier one in its class
   joins : (n l : ℕ) (g s : Operation) (ds : List PairClass) → Each (IsPairClass (In c.whole) (In c.sub) c.reps) ds → IsState c.reps (n + 1) g → IsState c.reps l s → InDouble (In c.sub) g s → (d : PairClass) × Contains ds d × Contains d.members l → (d : PairClass) × Contains ds d × Contains d.members (n + 1)
   joins n l g s ds e ig' is d (x, cx, cl) =
-      let p : IsPairClass (In c.whole) (In c.sub) c.reps x = each_of (IsPairClass (In c.whole) (In c.sub) c.reps) ds x e cx in
+      let p : IsPairClass (In c.whole) (In c.sub) c.reps x = each_held (IsPairClass (In c.whole) (In c.sub) c.reps) ds e x cx in
       let cg : Contains c.whole g = state_within c.whole c.sub c.reps a (n + 1) g ig' in
       let cs : Contains c.whole s = state_within c.whole c.sub c.reps a l s is in
       let cr : Contains c.whole p.rep = state_within c.whole c.sub c.reps a p.least p.rep p.rep_is in
@@ -98,7 +90,7 @@ module _ (c : Cosets) (ig : IsGroup c.whole) (jf : IsGroup c.sub) (w : IsWithin 
     each = i.each;
     rising = i.rising;
     below = more_below n ds i.below;
-    whole = λ k lo hi. by k lo hi (nat_split k (n + 1));
+    whole = λ k lo hi. by k lo hi (cases_lt k (n + 1));
   })
     where
       by : (k : ℕ) → 1 ≤ k → k ≤ n + 1 → (k < n + 1) ⊎ (n + 1 ≤ k) → (x : PairClass) × Contains ds x × Contains x.members k
@@ -110,10 +102,10 @@ module _ (c : Cosets) (ig : IsGroup c.whole) (jf : IsGroup c.sub) (w : IsWithin 
 
   pub classing_push : (n : ℕ) (g : Operation) (ds ds' : List PairClass) (x : PairClass) → IsClassing c n ds → ds' ≡ ds ++ x ∷ [] → IsClassFrom c g (n + 1) x → IsClassing c (n + 1) ds'
   classing_push n g ds ds' x i e f = subst (IsClassing c (n + 1)) (sym e) (record {
-    each = push_each (IsPairClass (In c.whole) (In c.sub) c.reps) ds x i.each f.0;
-    rising = push_rising least_before ds x i.rising (map_each (λ d. get_or d.members 0 0 ≤ n) (λ d. IsTrue (least_before d x)) ds before i.below);
-    below = push_each (λ d. get_or d.members 0 0 ≤ n + 1) ds x (more_below n ds i.below) (let q : get_or x.members 0 0 ≡ n + 1 = first in omega (arith, q));
-    whole = λ k lo hi. by k lo hi (nat_split k (n + 1));
+    each = each_push (IsPairClass (In c.whole) (In c.sub) c.reps) ds x i.each f.0;
+    rising = rising_push least_before ds x i.rising (each_map (λ d. get_or d.members 0 0 ≤ n) (λ d. IsTrue (least_before d x)) before ds i.below);
+    below = each_push (λ d. get_or d.members 0 0 ≤ n + 1) ds x (more_below n ds i.below) (let q : get_or x.members 0 0 ≡ n + 1 = first in omega (arith, q));
+    whole = λ k lo hi. by k lo hi (cases_lt k (n + 1));
   })
     where
       first : get_or x.members 0 0 ≡ n + 1

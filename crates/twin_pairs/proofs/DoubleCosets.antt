@@ -1,16 +1,17 @@
 -- Double cosets of a group in a group, and the pairs of states that an element exchanges.
+--   double_told    f·r in the state of g puts g in FrF
+--   double_from    where g is in FrF, some f·r is in its state
+--   member_more, member_found, member_none    the test of a state
+--   swaps_told, swaps_from, swaps_more, swaps_found, swaps_none    exchanged states
 use Rattle.std.proofs.Common.{◌≡◌, ℕ, ◌+◌, ◌⊎◌, inl, inr, ◌<◌, ◌≤◌, Bool, true, false, List, length, refl, ap, sym, ◌∙◌, arith, subst}
 use Rattle.std.specs.Prelude.{Contains, ◌↔◌, IsTrue, slice_index_or}
+use Rattle.std.proofs.lemmas.Bool.{cases_lt, false≢true}
 use Rattle.tensor_defs.specs.Operation.{Operation, IsProduct, identity}
 use Rattle.tensor_defs.specs.States.{Times, InDouble, IsState, IsSwappable}
 use Rattle.tensor_laws.proofs.Products.{product_unique}
 use Rattle.tensor_laws.proofs.Associativity.{product_assoc, product_assoc_back}
 use Rattle.magnetic_groups.specs.Sets.{In, IsGroup, IsWithin, InverseIn}
-use Rattle.magnetic_groups.proofs.Reaching.{nat_split}
 use Rattle.magnetic_groups.proofs.Cosets.{group_one, group_product, coset_self, coset_within, coset_sym, coset_trans, coset_moved}
-
-false_true : false ≡ true → ⊥
-false_true e = cc
 
 module _ (gs fs : List Operation) (ig : IsGroup gs) (jf : IsGroup fs) (w : IsWithin fs gs) where
   -- f·r in the state of g puts g in FrF
@@ -52,20 +53,20 @@ module _ (gs fs : List Operation) (ig : IsGroup gs) (jf : IsGroup fs) (w : IsWit
 
   -- ---- the test of a state
   pub member_more : (reps : List Operation) (r : Operation) (k n : ℕ) (f x : Operation) (b : Bool) → ((q : ℕ) (d y s : Operation) → q < n → IsProduct (slice_index_or fs q d) r y → IsState reps k s → ¬ Times s (In fs) y) → ((d : Operation) → slice_index_or fs n d ≡ f) → IsProduct f r x → ((s : Operation) → IsState reps k s → IsTrue b ↔ Times s (In fs) x) → b ≡ false → (q : ℕ) (d y s : Operation) → q < n + 1 → IsProduct (slice_index_or fs q d) r y → IsState reps k s → ¬ Times s (In fs) y
-  member_more reps r k n f x b i at p t e q d y s h u v = by (nat_split q n)
+  member_more reps r k n f x b i at p t e q d y s h u v = by (cases_lt q n)
     where
       by : (q < n) ⊎ (n ≤ q) → ¬ Times s (In fs) y
       by (inl a) = i q d y s a u v
       by (inr a) = λ z.
           let c : q ≡ n = omega arith in
           let same : y ≡ x = product_unique f r y x (subst (λ g. IsProduct g r y) (ap (λ m. slice_index_or fs m d) c ∙ at d) u) p in
-          false_true (sym e ∙ (t s v).1 (subst (λ g. Times s (In fs) g) same z))
+          false≢true (sym e ∙ (t s v).1 (subst (λ g. Times s (In fs) g) same z))
 
   pub member_found : (reps : List Operation) (r : Operation) (k : ℕ) (f x g : Operation) (b : Bool) → Contains gs r → ((s : Operation) → IsState reps k s → Contains gs s) → Contains fs f → IsProduct f r x → ((s : Operation) → IsState reps k s → IsTrue b ↔ Times s (In fs) x) → b ≡ true → (s : Operation) × IsState reps k s × Times s (In fs) g → IsTrue true ↔ InDouble (In fs) r g
   member_found reps r k f x g b cr cs cf p t e (s, is, u) = (λ h. double_told r s g f x cr (cs s is) cf p ((t s is).0 e) u, λ h. refl)
 
   pub member_none : (reps : List Operation) (r : Operation) (k n : ℕ) (g : Operation) → Contains gs r → ((s : Operation) → IsState reps k s → Contains gs s) → length fs ≤ n → ((q : ℕ) (d y s : Operation) → q < n → IsProduct (slice_index_or fs q d) r y → IsState reps k s → ¬ Times s (In fs) y) → (s : Operation) × IsState reps k s × Times s (In fs) g → IsTrue false ↔ InDouble (In fs) r g
-  member_none reps r k n g cr cs l i (s, is, u) = (λ h. absurd (false_true h), λ h. absurd (none (double_from r s g cr (cs s is) h u)))
+  member_none reps r k n g cr cs l i (s, is, u) = (λ h. absurd (false≢true h), λ h. absurd (none (double_from r s g cr (cs s is) h u)))
     where
       none : (f x : Operation) × Contains fs f × IsProduct f r x × Times s (In fs) x → ⊥
       none (f, x, cf, p, z) = let h = cf.1 in i cf.0 f x s (omega arith) (subst (λ y. IsProduct y r x) (sym cf.2) p) is z
@@ -99,7 +100,7 @@ module _ (gs fs : List Operation) (ig : IsGroup gs) (jf : IsGroup fs) (w : IsWit
       (t.0, h, x.0, t.1, t.2, x.2, (back x.0).0 (r, coset_self gs fs r ig jf cr, x.2))
 
   pub swaps_more : (r : Operation) (n : ℕ) (f h x : Operation) (b : Bool) → ((q : ℕ) (d y z : Operation) → q < n → IsProduct r (slice_index_or fs q d) y → IsProduct y r z → ¬ Contains fs z) → ((d : Operation) → slice_index_or fs n d ≡ f) → IsProduct r f h → IsProduct h r x → (IsTrue b ↔ Contains fs x) → b ≡ false → (q : ℕ) (d y z : Operation) → q < n + 1 → IsProduct r (slice_index_or fs q d) y → IsProduct y r z → ¬ Contains fs z
-  swaps_more r n f h x b i at p u t e q d y z l a c = by (nat_split q n)
+  swaps_more r n f h x b i at p u t e q d y z l a c = by (cases_lt q n)
     where
       by : (q < n) ⊎ (n ≤ q) → ¬ Contains fs z
       by (inl m) = i q d y z m a c
@@ -107,13 +108,13 @@ module _ (gs fs : List Operation) (ig : IsGroup gs) (jf : IsGroup fs) (w : IsWit
           let s : q ≡ n = omega arith in
           let same : y ≡ h = product_unique r f y h (subst (λ g. IsProduct r g y) (ap (λ j. slice_index_or fs j d) s ∙ at d) a) p in
           let twice : z ≡ x = product_unique h r z x (subst (λ g. IsProduct g r z) same c) u in
-          false_true (sym e ∙ t.1 (subst (Contains fs) twice k))
+          false≢true (sym e ∙ t.1 (subst (Contains fs) twice k))
 
   pub swaps_found : (r f h x : Operation) → Contains gs r → Contains fs f → IsProduct r f h → IsProduct h r x → Contains fs x → IsTrue true ↔ IsSwappable (In gs) (In fs) r
   swaps_found r f h x cr cf p q cx = (λ t. swaps_told r f h x cr cf p q cx, λ t. refl)
 
   pub swaps_none : (r : Operation) (n : ℕ) → Contains gs r → length fs ≤ n → ((q : ℕ) (d y z : Operation) → q < n → IsProduct r (slice_index_or fs q d) y → IsProduct y r z → ¬ Contains fs z) → IsTrue false ↔ IsSwappable (In gs) (In fs) r
-  swaps_none r n cr l i = (λ h. absurd (false_true h), λ t. absurd (none (swaps_from r cr t)))
+  swaps_none r n cr l i = (λ h. absurd (false≢true h), λ t. absurd (none (swaps_from r cr t)))
     where
       none : (f h x : Operation) × Contains fs f × IsProduct r f h × IsProduct h r x × Contains fs x → ⊥
       none (f, h, x, cf, p, q, cx) = let b = cf.1 in i cf.0 f h x (omega arith) (subst (λ y. IsProduct r y h) (sym cf.2) p) q cx

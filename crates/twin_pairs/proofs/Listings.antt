@@ -1,68 +1,36 @@
 -- The states of a class in their order.
+--   state_exists, one_state, state_within, state_below    states
+--   earlier_more, earlier_found, earlier_done, earlier_none    the first earlier state of the class
+--   IsListed    the members up to n
 use Rattle.std.proofs.Common.{◌≡◌, ℕ, zero, suc, ◌+◌, ◌-◌, ◌⊎◌, inl, inr, ◌<◌, ◌≤◌, Bool, true, false, List, [], ◌∷◌, ◌++◌, length, refl, ap, sym, ◌∙◌, arith, subst}
-use Rattle.std.specs.Prelude.{Contains, ◌↔◌, IsTrue, slice_index_or, slice_get, Some, None, nat_lt}
+use Rattle.std.specs.Prelude.{Contains, ◌↔◌, IsTrue, slice_index_or, Some, None, nat_lt}
 use Rattle.std.proofs.lemmas.Bool.Decides.{nat_tests}
-use Rattle.std.proofs.lemmas.Option.{slice_get-get_or}
+use Rattle.std.proofs.lemmas.Option.{slice_get-get_or, same_Some, slice_get_within}
 use Rattle.std.proofs.lemmas.List.Elements.{Contains-append_left, Contains-push, Contains-push_cases}
+use Rattle.std.proofs.lemmas.Bool.{cases_lt, false≢true}
+use Rattle.list_laws.proofs.Rising.{rising_push}
+use Rattle.list_laws.proofs.Members.{each_push, each_held, each_map, each_found}
 use Rattle.tensor_defs.specs.Lists.{Each, IsRising}
 use Rattle.tensor_defs.specs.Operation.{Operation, identity}
 use Rattle.tensor_defs.specs.States.{InDouble, IsState, AreStates}
 use Rattle.magnetic_groups.specs.Sets.{In, IsGroup, IsWithin}
-use Rattle.magnetic_groups.proofs.Reaching.{nat_split}
 use Rattle.magnetic_groups.proofs.Cosets.{coset_self}
 use Rattle.coset_states.specs.Numbering.{Cosets, TellsState}
 use Rattle.twin_pairs.specs.Classes.{TellsEarlier, AreMembers}
 use Rattle.twin_pairs.proofs.DoubleCosets.{double_self}
-
-false_true : false ≡ true → ⊥
-false_true e = cc
-
-some_same : (x y : Operation) → Some x ≡ Some y → x ≡ y
-some_same x y e = cc
-
--- ---- lists
-pub push_each : {X : Type 0} (P : X → Type 0) (xs : List X) (y : X) → Each P xs → P y → Each P (xs ++ y ∷ [])
-push_each P [] y e p = (p, tt)
-push_each P (x ∷ xs) y e p = (e.0, push_each P xs y e.1 p)
-
-pub push_rising : {X : Type 0} (before : X → X → Bool) (xs : List X) (y : X) → IsRising before xs → Each (λ x. IsTrue (before x y)) xs → IsRising before (xs ++ y ∷ [])
-push_rising before [] y r e = (tt, tt)
-push_rising before (x ∷ xs) y r e = (push_each (λ b. IsTrue (before x b)) xs y r.0 e.0, push_rising before xs y r.1 e.1)
-
-pub map_each : {X : Type 0} (P Q : X → Type 0) (xs : List X) → ((x : X) → P x → Q x) → Each P xs → Each Q xs
-map_each P Q [] f e = tt
-map_each P Q (x ∷ xs) f e = (f x e.0, map_each P Q xs f e.1)
-
-pub each_held : {X : Type 0} (P : X → Type 0) (xs : List X) → Each P xs → (k : ℕ) (d : X) → k < length xs → P (slice_index_or xs k d)
-each_held P [] e k d h = absurd (omega arith)
-each_held P (x ∷ xs) e zero d h = e.0
-each_held P (x ∷ xs) e (suc k) d h = each_held P xs e.1 k d (omega arith)
-
-pub each_of : {X : Type 0} (P : X → Type 0) (xs : List X) (x : X) → Each P xs → Contains xs x → P x
-each_of P xs x e c = subst P c.2 (each_held P xs e c.0 x c.1)
 
 -- ---- states
 pub state_exists : (reps : List Operation) (k : ℕ) → 1 ≤ k → k ≤ length reps → (s : Operation) × IsState reps k s
 state_exists reps k lo hi = let h : k - 1 < length reps = omega arith in (slice_index_or reps (k - 1) identity, (lo, slice_get-get_or reps (k - 1) identity h))
 
 pub one_state : (reps : List Operation) (k : ℕ) (g h : Operation) → IsState reps k g → IsState reps k h → g ≡ h
-one_state reps k g h p q = some_same g h (sym p.1 ∙ q.1)
-
-get_each : (P : Operation → Type 0) (xs : List Operation) → Each P xs → (k : ℕ) (g : Operation) → slice_get xs k ≡ Some g → P g
-get_each P [] e k g is = absurd cc
-get_each P (x ∷ xs) e zero g is = subst P (some_same x g is) e.0
-get_each P (x ∷ xs) e (suc k) g is = get_each P xs e.1 k g is
+one_state reps k g h p q = same_Some g h (sym p.1 ∙ q.1)
 
 pub state_within : (gs fs reps : List Operation) → AreStates (In gs) (In fs) reps → (k : ℕ) (s : Operation) → IsState reps k s → Contains gs s
-state_within gs fs reps a k s is = get_each (In gs) reps a.within (k - 1) s is.1
-
-get_below : (xs : List Operation) (k : ℕ) (g : Operation) → slice_get xs k ≡ Some g → k < length xs
-get_below [] k g is = absurd cc
-get_below (x ∷ xs) zero g is = omega arith
-get_below (x ∷ xs) (suc k) g is = let h = get_below xs k g is in omega (arith, h)
+state_within gs fs reps a k s is = each_found (In gs) reps a.within (k - 1) s is.1
 
 pub state_below : (reps : List Operation) (k : ℕ) (s : Operation) → IsState reps k s → k ≤ length reps
-state_below reps k s is = let h = get_below reps (k - 1) s is.1 in let o = is.0 in omega (arith, h, o)
+state_below reps k s is = let h = slice_get_within reps (k - 1) s is.1 in let o = is.0 in omega (arith, h, o)
 
 -- ---- the test at a state's own representative
 module _ (c : Cosets) (g : Operation) (ig : IsGroup c.whole) (jf : IsGroup c.sub) (w : IsWithin c.sub c.whole) (a : AreStates (In c.whole) (In c.sub) c.reps) where
@@ -74,11 +42,11 @@ module _ (c : Cosets) (g : Operation) (ig : IsGroup c.whole) (jf : IsGroup c.sub
 
   -- ---- the first earlier state of the class
   pub earlier_more : (n : ℕ) (b : Bool) → TellsEarlier c g n None → Tells n b → b ≡ false → TellsEarlier c g (n + 1) None
-  earlier_more n b i t e l s is h = by (nat_split l n)
+  earlier_more n b i t e l s is h = by (cases_lt l n)
     where
       by : (l < n) ⊎ (n ≤ l) → ¬ InDouble (In c.sub) g s
       by (inl p) = i l s is p
-      by (inr p) = λ d. let q : l ≡ n = omega arith in false_true (sym e ∙ (at_state n b t s (subst (λ m. IsState c.reps m s) q is)).1 d)
+      by (inr p) = λ d. let q : l ≡ n = omega arith in false≢true (sym e ∙ (at_state n b t s (subst (λ m. IsState c.reps m s) q is)).1 d)
 
   pub earlier_found : (n k : ℕ) (b : Bool) → 1 ≤ n → n < k → k ≤ length c.reps → Tells n b → b ≡ true → TellsEarlier c g k (Some n)
   earlier_found n k b lo hi top t e =
@@ -111,7 +79,7 @@ module _ (c : Cosets) (g : Operation) (ig : IsGroup c.whole) (jf : IsGroup c.sub
     rising = (tt, tt);
     within = ((is.0, state_below c.reps k g is), tt);
     below = (omega arith, tt);
-    members = λ l s h at. by l s at h (nat_split l k);
+    members = λ l s h at. by l s at h (cases_lt l k);
   })
     where
       by : (l : ℕ) (s : Operation) → IsState c.reps l s → l ≤ k → (l < k) ⊎ (k ≤ l) → Contains (k ∷ []) l ↔ InDouble (In c.sub) g s
@@ -125,10 +93,10 @@ module _ (c : Cosets) (g : Operation) (ig : IsGroup c.whole) (jf : IsGroup c.sub
   listed_push k n ms ms' b i h e t f = subst (IsListed k (n + 1)) (sym e) (record {
     others = i.others ++ (n + 1) ∷ [];
     begins = ap (λ xs. xs ++ (n + 1) ∷ []) i.begins;
-    rising = push_rising nat_lt ms (n + 1) i.rising (map_each (λ l. l ≤ n) (λ l. IsTrue (nat_lt l (n + 1))) ms less i.below);
-    within = push_each (λ l. (1 ≤ l) × (l ≤ length c.reps)) ms (n + 1) i.within (omega arith, omega arith);
-    below = push_each (λ l. l ≤ n + 1) ms (n + 1) (map_each (λ l. l ≤ n) (λ l. l ≤ n + 1) ms (λ l p. omega arith) i.below) (omega arith);
-    members = λ l s p at. by l s at p (nat_split l (n + 1));
+    rising = rising_push nat_lt ms (n + 1) i.rising (each_map (λ l. l ≤ n) (λ l. IsTrue (nat_lt l (n + 1))) less ms i.below);
+    within = each_push (λ l. (1 ≤ l) × (l ≤ length c.reps)) ms (n + 1) i.within (omega arith, omega arith);
+    below = each_push (λ l. l ≤ n + 1) ms (n + 1) (each_map (λ l. l ≤ n) (λ l. l ≤ n + 1) (λ l p. omega arith) ms i.below) (omega arith);
+    members = λ l s p at. by l s at p (cases_lt l (n + 1));
   })
     where
       less : (l : ℕ) → l ≤ n → nat_lt l (n + 1) ≡ true
@@ -152,16 +120,16 @@ module _ (c : Cosets) (g : Operation) (ig : IsGroup c.whole) (jf : IsGroup c.sub
     begins = i.begins;
     rising = i.rising;
     within = i.within;
-    below = map_each (λ l. l ≤ n) (λ l. l ≤ n + 1) ms (λ l p. omega arith) i.below;
-    members = λ l s p at. by l s at p (nat_split l (n + 1));
+    below = each_map (λ l. l ≤ n) (λ l. l ≤ n + 1) (λ l p. omega arith) ms i.below;
+    members = λ l s p at. by l s at p (cases_lt l (n + 1));
   })
     where
       by : (l : ℕ) (s : Operation) → IsState c.reps l s → l ≤ n + 1 → (l < n + 1) ⊎ (n + 1 ≤ l) → Contains ms l ↔ InDouble (In c.sub) g s
       by l s at p (inl q) = i.members l s (omega arith) at
       by l s at p (inr q) =
           let r : l ≡ n + 1 = omega arith in (
-            λ x. let o : l ≤ n = each_of (λ l. l ≤ n) ms l i.below x in absurd (omega arith),
-            λ d. absurd (false_true (sym f ∙ (at_state (n + 1) b t s (subst (λ m. IsState c.reps m s) r at)).1 d)),
+            λ x. let o : l ≤ n = each_held (λ l. l ≤ n) ms i.below l x in absurd (omega arith),
+            λ d. absurd (false≢true (sym f ∙ (at_state (n + 1) b t s (subst (λ m. IsState c.reps m s) r at)).1 d)),
           )
 
   pub listed_done : (k n : ℕ) (ms : List ℕ) → IsListed k n ms → length c.reps ≤ n → AreMembers c g k ms

@@ -98,6 +98,7 @@ fn is_member(states: &States, element: &Op, k: usize) -> bool
     requires inside { Contains states.now.whole element.now }
     ensures { (g : Operation) → TellsState states.now g (Some k) → IsTrue result ↔ InDouble (In states.now.sub) element.now g }
 {
+    // what the count tells of the places is for the proof
     let _count = states.count();
     let sub = states.sub();
     for place in 0..sub.len() {
@@ -116,6 +117,7 @@ fn first_earlier(states: &States, element: &Op, k: usize) -> Option<usize>
     requires inside { Contains states.now.whole element.now }
     ensures { TellsEarlier states.now element.now k result }
 {
+    // what the count tells of the places is for the proof
     let _count = states.count();
     for earlier in 1..k {
         if is_member(states, element, earlier) {
@@ -153,6 +155,7 @@ fn is_swappable(states: &States, element: &Op) -> bool
     requires inside { Contains states.now.whole element.now }
     ensures { IsTrue result ↔ IsSwappable (In states.now.whole) (In states.now.sub) element.now }
 {
+    // what the count tells of the places is for the proof
     let _count = states.count();
     let sub = states.sub();
     for place in 0..sub.len() {
@@ -174,6 +177,7 @@ fn pair_class(alloc: Global, states: &States, element: &Op, k: usize) -> Result<
     requires first { TellsEarlier states.now element.now k None }
     ensures { IfOk result (λ c. IsClassFrom states.now element.now k (class_of c)) }
 {
+    // what the count tells of the places is for the proof
     let _count = states.count();
     let members = list_members(alloc, states, element, k)?;
     let swappable = is_swappable(states, element);

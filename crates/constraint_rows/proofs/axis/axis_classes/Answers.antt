@@ -9,17 +9,17 @@ use Rattle.constraint_rows.proofs.axis.axis_classes.Goals as goal
 
 pub of_table-requires : goal.of_table-requires
 of_table-requires g c =
-    axis_settled g.R.Rank.power (axis_made c.exchanges.ensures.exchanges c.exchanges.ensures.within c.in_ok-table.ensures
+    axis_settled g.R.Rank.power (axis_made c.firsts.ensures.within c.in_ok-table.ensures.firsts
     c.flags.ensures c.deref.ensures.value c.in_ok-marked.ensures)
 
 pub returns-clause-representatives : goal.returns-clause-representatives
 returns-clause-representatives g c = λ j shape.
     subst (λ (es : List Entry). AreRepresentatives j (In c.args.group.now) (before_of c.args.order.now) (carrier_of g.R.Rank.R es)) (sym c.of_table.ensures)
-    (axis_representatives g.R.Rank.power (axis_made c.exchanges.ensures.exchanges c.exchanges.ensures.within c.in_ok-table.ensures
+    (axis_representatives g.R.Rank.power (axis_made c.firsts.ensures.within c.in_ok-table.ensures.firsts
     c.flags.ensures c.deref.ensures.value c.in_ok-marked.ensures) j shape)
 
 pub returns-clause-sound : goal.returns-clause-sound
 returns-clause-sound g c =
     subst (λ (es : List Entry). AreSound g.R.Rank.LEN (before_at g.R.Rank.R c.args.order.now) es) (sym c.of_table.ensures)
-    (axis_sound g.R.Rank.power (axis_made c.exchanges.ensures.exchanges c.exchanges.ensures.within c.in_ok-table.ensures
+    (axis_sound g.R.Rank.power (axis_made c.firsts.ensures.within c.in_ok-table.ensures.firsts
     c.flags.ensures c.deref.ensures.value c.in_ok-marked.ensures))

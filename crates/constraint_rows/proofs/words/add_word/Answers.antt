@@ -1,5 +1,6 @@
 use Rattle.std.proofs.Common.{◌≡◌, ◌≤◌, ◌++◌, List, length, ap, sym, ◌∙◌, subst}
 use Rattle.tensor_rank.specs.Orders.{before_at}
+use Rattle.constraint_rows.specs.Choices.{is_chosen}
 use Rattle.constraint_rows.specs.Gathering.{AreTermsBelow, terms_from, word_at}
 use Rattle.constraint_rows.specs.declared.words.Term.{Term}
 use Rattle.constraint_rows.proofs.GatherLaws.{order_total}
@@ -35,8 +36,8 @@ returns g c =
     let terms = terms_from 0 0 (word_at g.R.Rank.R c.args.word) in
     let first : c.deref.result.now ≡ terms = c.deref.ensures.value ∙ c.in_ok-list_terms.ensures ∙ ap (λ (ts : List Term). ts ++ terms) c.clear.ensures.items in
     let second : c.deref-2.result.now ≡ terms = c.deref-2.ensures.value ∙ c.in_ok-list_terms.ensures ∙ ap (λ (ts : List Term). ts ++ terms) c.clear.ensures.items in
-    let used = c.if-not-is_used.false in
+    let used = c.if-not-is_chosen.false in
     word_made g.R.Rank.LEN g.R.Rank.R g.R.Rank.power g.R.Rank.fits (before_at g.R.Rank.R c.args.order.now)
-    (order_total g.R.Rank.LEN g.R.Rank.R g.R.Rank.power c.args.order.now) c.args.classes.now c.requires.sound c.args.word
-    c.args.rows.now.items _ _ _ _ c.deref.result.now c.deref-2.result.now (sym c.is_used.ensures ∙ used) c.requires.rows
+    (order_total g.R.Rank.LEN g.R.Rank.R g.R.Rank.power c.args.order.now) c.args.classes.now c.requires.sound (is_chosen c.args.rotations) c.args.word
+    c.args.rows.now.items _ _ _ _ c.deref.result.now c.deref-2.result.now (sym c.is_chosen.ensures ∙ used) c.requires.rows
     first c.in_ok-row_of_terms.ensures second c.in_ok-row_of_terms-2.ensures c.in_ok-push.ensures.items c.in_ok-push-2.ensures.items

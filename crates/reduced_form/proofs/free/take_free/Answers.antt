@@ -1,9 +1,10 @@
 use Rattle.std.proofs.Common.{◌≡◌, ℕ, ◌+◌, ◌<◌, ◌≤◌, List, length, false, true, sym, ◌∙◌, subst, ap}
 use Rattle.std.specs.List.{insert}
+use Rattle.constraint_rows.proofs.GatherLaws.{order_total}
 use Rattle.sign_moves.specs.Classes.{first_at, vanishes_at}
 use Rattle.tensor_rank.specs.Orders.{before_at}
 use Rattle.reduced_form.specs.Forms.{IsFreeUpTo, free_at}
-use Rattle.reduced_form.proofs.FreeLaws.{class_some, free_inserted, orders_total}
+use Rattle.reduced_form.proofs.FreeLaws.{class_some, free_inserted}
 use Rattle.reduced_form.proofs.free.take_free.Goals as goal
 
 pub returns-in_ok-insert : goal.returns-in_ok-insert
@@ -21,4 +22,4 @@ returns-in_ok-insert g c =
     let first_c : first_at c.args.classes.now c.args.c ≡ c.args.c = ap (first_at c.args.classes.now) (sym c.at.ensures) ∙ told.1 ∙ sym c.number.ensures.same ∙ c.if-number-c.true in
     let items : c.insert.new.self.items ≡ insert free place c.args.c = c.in_ok-insert.ensures.items in
     subst (λ (xs : List ℕ). IsFreeUpTo n before c.args.classes.now xs (c.args.c + 1)) (sym items)
-    (free_inserted c.requires.free c.requires.component open_c first_c (orders_total n g.R.Rank.R c.args.order.now g.R.Rank.power) place within after stops)
+    (free_inserted c.requires.free c.requires.component open_c first_c (order_total n g.R.Rank.R g.R.Rank.power c.args.order.now) place within after stops)

@@ -13,8 +13,8 @@ use Rattle.reduced_form.proofs.AxisForms.{axis_calm, axis_fits, axis_grows, word
 use Rattle.reduced_form.proofs.ToldLaws.{err_same}
 use Rattle.reduced_form.proofs.solving.axis_form.Goals as goal
 
-pub eliminate_checked-requires-clause-rows : goal.eliminate_checked-requires-clause-rows
-eliminate_checked-requires-clause-rows g c =
+pub eliminate-requires-clause-rows : goal.eliminate-requires-clause-rows
+eliminate-requires-clause-rows g c =
     let r = g.R.Rank.R in
     let before = before_at r c.args.order.now in
     let es = c.in_ok-classes.classes in
@@ -51,3 +51,6 @@ returns-clause-calm g c =
     c.in_ok-classes.ensures.sound c.in_ok-rows.ensures.rows c.in_ok-classes.ensures.representatives c.one_elimination.ensures
     (subst (λ (rows : List (List Part)). (us : List Index) → AreUnknowns r (before_of c.args.order.now) (carrier_of r es) us → GrowsFrom [] (lines_at us rows) → ⊥)
     c.deref.ensures.value c.in_ok-form.ensures.calm)
+
+pub returns-clause-formed : goal.returns-clause-formed
+returns-clause-formed g c = c.in_ok-form.ensures.fits.well_formed

@@ -1,8 +1,9 @@
 use Rattle.std.proofs.Common.{◌≡◌, ◌-◌, suc, sym, subst, length, take, arith, ap}
+use Rattle.std.proofs.lemmas.Result.{IfOk-weaker}
 use Rattle.sparse_rows.specs.Rows.{IsRow}
 use Rattle.sparse_rows.specs.KeptRows.{kept_of}
 use Rattle.sparse_rows.specs.Sums.{IsNegated, IsPivotSum}
-use Rattle.sparse_rows.proofs.PivotSums.{row-has, row-take, pivot-sum, ok_map}
+use Rattle.sparse_rows.proofs.PivotSums.{row-has, row-take, pivot-sum}
 use Rattle.sparse_rows.proofs.solution.pivot_sum.Goals as goal
 
 pub overflow_sub-last : goal.overflow_sub-last
@@ -23,5 +24,4 @@ returns c =
     let h = row-has p all c.requires.leading in
     let l = c.len-last.ensures in
     let e : length all ≡ suc k = omega (arith, h, l) in
-    ok_map (λ v. IsNegated xs v.items) (λ v. IsPivotSum (kept_of c.args.row.now) v.items)
-    (λ v n. pivot-sum p all k xs v.items c.requires.row c.requires.leading e (ap (take k) c.deref.ensures.value) n) c.negated.result c.negated.ensures
+    IfOk-weaker c.negated.result (λ v. IsNegated xs v.items) (λ v. IsPivotSum (kept_of c.args.row.now) v.items) (λ v n. pivot-sum p all k xs v.items c.requires.row c.requires.leading e (ap (take k) c.deref.ensures.value) n) c.negated.ensures

@@ -1,8 +1,10 @@
 use Rattle.std.proofs.Common.{◌≡◌, ◌≢◌, ◌∙◌, ◌<◌, ◌+◌, ◌-◌, suc, refl, sym, subst, length, drop, arith}
+use Rattle.std.proofs.lemmas.List.{drop_all}
+use Rattle.list_laws.proofs.Lists.{drop_head}
 use Rattle.tensor_defs.specs.Number.{num_zero, value_of}
 use Rattle.exact_frac.specs.Held.{inverse_of}
 use Rattle.sparse_rows.specs.Rows.{coeff}
-use Rattle.sparse_rows.proofs.Merging.{drop-head, drop-all, always_err}
+use Rattle.sparse_rows.proofs.Merging.{always_err}
 use Rattle.sparse_rows.proofs.RowSteps.{IsScaling, scaling-start, scaling-step, scaling-grows, scaling-nonzero, scaled-row, last-pivot, last-value, found-entry}
 use Rattle.sparse_rows.proofs.steps.scale.Goals as goal
 
@@ -27,7 +29,7 @@ returns-in_err-value-clause-grows c =
     let i = c.loop-entry.entry-index in
     let s = c.requires.some in
     let h : suc (length xs - 1) ≡ length xs = omega (arith, s) in
-    let m = subst (λ A. IsScaling (coeff xs) w A c.loop-entry.entries.items) (drop-head xs i c.entry-item.result c.loop-entry-test.true c.entry-item.is) c.loop-entry.invariant.0 in
+    let m = subst (λ A. IsScaling (coeff xs) w A c.loop-entry.entries.items) (drop_head xs i c.entry-item.result c.loop-entry-test.true c.entry-item.is) c.loop-entry.invariant.0 in
     always_err c.from_residual.result (record {
       place = x.unknown;
       inverse = w;
@@ -45,7 +47,7 @@ loop-entry-preserved c =
     let l : i < length xs = c.loop-entry-test.true in
     let s = c.requires.some in
     let h : suc (length xs - 1) ≡ length xs = omega (arith, s) in
-    let m = subst (λ A. IsScaling (coeff xs) w A c.loop-entry.entries.items) (drop-head xs i a l c.entry-item.is) c.loop-entry.invariant.0 in
+    let m = subst (λ A. IsScaling (coeff xs) w A c.loop-entry.entries.items) (drop_head xs i a l c.entry-item.is) c.loop-entry.invariant.0 in
     let v = c.in_ok-value.ensures.exact in
     let last = (last-value xs (length xs - 1) x h c.index-row-row.is c.requires.row).1 in
     let z : value_of c.in_ok-value.value ≢ num_zero =
@@ -62,5 +64,5 @@ returns-clause-scaled c =
     let w = inverse_of x.value in
     let s = c.requires.some in
     let h : suc (length xs - 1) ≡ length xs = omega (arith, s) in
-    scaled-row (coeff xs) w x.unknown _ (subst (λ A. IsScaling (coeff xs) w A c.loop-entry.entries.items) (drop-all xs c.loop-entry.entry-index c.loop-entry-test.false) c.loop-entry.invariant.0)
+    scaled-row (coeff xs) w x.unknown _ (subst (λ A. IsScaling (coeff xs) w A c.loop-entry.entries.items) (drop_all c.loop-entry.entry-index xs c.loop-entry-test.false) c.loop-entry.invariant.0)
     (last-pivot xs (length xs - 1) x h c.index-row-row.is c.requires.row) refl

@@ -1,8 +1,9 @@
 use Rattle.std.proofs.Common.{◌≡◌, ◌≢◌, ◌∙◌, ◌<◌, ◌+◌, refl, sym, subst, length, get_or, drop, arith, true, false}
+use Rattle.std.proofs.lemmas.List.{get_or_default}
 use Rattle.tensor_defs.specs.Number.{num_zero, whole, value_of}
 use Rattle.exact_frac.specs.Held.{IsHeldAs}
 use Rattle.sparse_rows.specs.WholeRows.{whole_line}
-use Rattle.sparse_rows.proofs.Wholes.{IsTaking, taking-start, skip-at, more-at, taking-end, none, get-own, read-back}
+use Rattle.sparse_rows.proofs.Wholes.{IsTaking, taking-start, skip-at, more-at, taking-end, none, read-back}
 use Rattle.sparse_rows.proofs.whole.row_of_whole.Goals as goal
 use Rattle.sparse_rows.proofs.whole.row_of_whole.Goals.{then-not-is_zero+in-Ok, else-not-is_zero}
 
@@ -19,7 +20,7 @@ loop-entry-preserved c =
     let f = c.of_whole-value.result in
     let h : i < length ws = c.loop-entry-test.true in
     let m = c.loop-entry.invariant.0 in
-    let e : w ≡ get_or ws i w = get-own ws i none h in
+    let e : w ≡ get_or ws i w = get_or_default ws i none (get_or ws i none) h in
     let v : IsHeldAs (whole w.number) f = subst (λ x. IsHeldAs x f) (read-back (whole_line ws) ws i w c.loop-entry.taken.items m h e) c.of_whole-value.ensures.value in
     elim c.if-not-is_zero.branch [
       | then-not-is_zero+in-Ok b ↦

@@ -1,5 +1,6 @@
 use Rattle.std.proofs.Common.{◌≡◌, ◌++◌, ◌⊎◌, Bool, inl, inr}
 use Rattle.std.proofs.lemmas.Result.{on_ok_weaker}
+use Rattle.tensor_laws.proofs.Sets.{same_back}
 use Rattle.tensor_defs.specs.Elimination.{Grows}
 use Rattle.tensor_defs.specs.Group.{InGroup}
 use Rattle.tensor_defs.specs.Jahn.{AdmitSame}
@@ -7,7 +8,7 @@ use Rattle.tensor_defs.specs.Orders.{index_before}
 use Rattle.text_defs.specs.AnswerTexts.{same_text}
 use Rattle.jahn_grammar.specs.Symbols.{symbol_of}
 use Rattle.magnetic_groups.specs.Sets.{In}
-use Rattle.table_answers.proofs.SetLaws.{admitted_same, grows_same, same_back}
+use Rattle.table_answers.proofs.SetLaws.{admitted_same, grows_same}
 use Rattle.table_answers.proofs.Told.{ok_always, same_grows, written_as}
 use Rattle.table_answers.proofs.sameness.answer_same.Goals as goal
 

@@ -1,10 +1,11 @@
 use Rattle.std.proofs.Common.{ℕ, subst, arith, ◌≡◌, ◌+◌, ◌-◌, ◌<◌, ◌≤◌, ◌^◌, ap, ◌∙◌, refl}
+use Rattle.tensor_rank.proofs.ExchangeLaws.{front_more}
 use Rattle.tensor_rank.specs.Digits.{digit_of, number_of}
 use Rattle.sign_moves.specs.Signs.{times}
 use Rattle.tensor_defs.specs.Tensor.{axis_place, index_of}
 use Rattle.tensor_rank.specs.IndexLaws.{nth, digit_place, digit_index}
 use Rattle.constraint_rows.specs.PlainOps.{image, entry_sign, signs_of, op_carried}
-use Rattle.constraint_rows.proofs.OpLaws.{images_small, number_more, signs_more, op_carried_within}
+use Rattle.constraint_rows.proofs.OpLaws.{images_small, signs_more, op_carried_within}
 use Rattle.constraint_rows.proofs.ops.PlainOp.carry.Goals as goal
 
 pub loop-place-init : goal.loop-place-init
@@ -32,7 +33,7 @@ loop-place-preserved g c =
     digit_index g.R.Rank.R c.args.c below c.loop-place.place inside in
     let digit : c.digit.result - 1 ≡ digit_of g.R.Rank.R c.args.c c.loop-place.place = omega (arith, one, same) in
     record {
-      number = number_more c.loop-place.place (λ p. image c.args.self.now (digit_of g.R.Rank.R c.args.c p)) _ _ c.loop-place.invariant.number (ap (image c.args.self.now) digit);
+      number = front_more c.loop-place.place (λ p. image c.args.self.now (digit_of g.R.Rank.R c.args.c p)) _ _ c.loop-place.invariant.number (ap (image c.args.self.now) digit);
       sign = c.times-sign.ensures ∙ signs_more c.loop-place.place c.args.self.now (digit_of g.R.Rank.R c.args.c) _ _ c.loop-place.invariant.sign (c.entry_sign.ensures ∙ ap (entry_sign c.args.self.now) digit);
     }
 

@@ -1,9 +1,9 @@
 use Rattle.std.proofs.Common.{◌<◌, ◌∙◌, ap, sym, subst, lit<}
 use Rattle.std.specs.Prelude.{unsigned_abs}
+use Rattle.number_laws.proofs.Fractions.{over-whole}
 use Rattle.tensor_defs.specs.Number.{limit, value_of}
 use Rattle.exact_frac.specs.Held.{IsHeld}
 use Rattle.exact_frac.proofs.Divisors.{gcd-one}
-use Rattle.exact_frac.proofs.Overs.{over-whole}
 use Rattle.exact_frac.proofs.Wide.{narrow}
 use Rattle.exact_frac.proofs.frac.Frac.of_whole.Goals as goal
 

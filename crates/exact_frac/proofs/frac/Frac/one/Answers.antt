@@ -1,9 +1,9 @@
 use Rattle.std.proofs.Common.{sym, ◌∙◌, ap, subst, lit<}
+use Rattle.number_laws.proofs.Fractions.{over-whole}
 use lib.IntN.{pos}
 use Rattle.tensor_defs.specs.Number.{value_of}
 use Rattle.exact_frac.specs.Held.{IsHeld}
 use Rattle.exact_frac.proofs.Divisors.{gcd-one}
-use Rattle.exact_frac.proofs.Overs.{over-whole}
 use Rattle.exact_frac.proofs.frac.Frac.one.Goals as goal
 
 pub returns-clause-value : goal.returns-clause-value

@@ -1,10 +1,11 @@
 use Rattle.std.proofs.Common.{◌≡◌, List, filter, ap, arith, ◌∙◌, subst}
-use Rattle.tensor_defs.specs.Words.{Word, is_used, words}
+use Rattle.tensor_defs.specs.Words.{Word, words}
 use Rattle.tensor_rank.specs.Orders.{before_at}
+use Rattle.constraint_rows.specs.Choices.{is_chosen}
 use Rattle.constraint_rows.specs.Gathering.{words_below}
 use Rattle.constraint_rows.specs.WordRows.{AreWordRows}
 use Rattle.constraint_rows.proofs.WordLaws.{words_listed}
-use Rattle.constraint_rows.proofs.words.rows_of_words.Goals as goal
+use Rattle.constraint_rows.proofs.words.chosen_rows.Goals as goal
 
 pub returns : goal.returns
 returns g c =
@@ -13,6 +14,6 @@ returns g c =
     ap (words_below g.R.Rank.R) (end ∙ g.R.Rank.power) ∙ words_listed g.R.Rank.R in
     record {
       rows =
-          subst (λ (ws : List Word). AreWordRows g.R.Rank.R (before_at g.R.Rank.R c.args.order.now) c.args.classes.now (filter is_used ws) c.loop-number.rows.items)
+          subst (λ (ws : List Word). AreWordRows g.R.Rank.R (before_at g.R.Rank.R c.args.order.now) c.args.classes.now (filter (is_chosen c.args.rotations) ws) c.loop-number.rows.items)
           all c.loop-number.invariant.rows.gone;
     }

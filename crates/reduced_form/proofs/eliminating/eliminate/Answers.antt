@@ -1,19 +1,20 @@
 use Rattle.std.proofs.Common.{◌≡◌, ℕ, ◌<◌, List, [], length, sym, subst}
+use Rattle.constraint_rows.proofs.GatherLaws.{order_total}
 use Rattle.tensor_defs.specs.Elimination.{GrowsFrom}
 use Rattle.tensor_defs.specs.Lists.{Each}
 use Rattle.sparse_rows.specs.KeptRows.{AreGivenRows, IsEliminated, kepts, lines}
 use Rattle.sparse_rows.specs.Solutions.{IsKeptWithin}
 use Rattle.reduced_form.specs.Forms.{free_at}
 use Rattle.reduced_form.specs.Eliminated.{AreSparse, CanPlace}
-use Rattle.reduced_form.proofs.FreeLaws.{free_apart, orders_total}
+use Rattle.reduced_form.proofs.FreeLaws.{free_apart}
 use Rattle.reduced_form.proofs.Systems.{grows_told, kept_within, parts_of, rows_given, rows_place, system_made, told_grows}
 use Rattle.reduced_form.proofs.ToldLaws.{eliminated_fits, err_same}
-use Rattle.reduced_form.proofs.eliminating.eliminate_checked.Goals as goal
+use Rattle.reduced_form.proofs.eliminating.eliminate.Goals as goal
 
 pub places_of-requires-clause-apart : goal.places_of-requires-clause-apart
 places_of-requires-clause-apart g c =
     subst (λ (xs : List ℕ). (i k : ℕ) → i < length xs → k < length xs → free_at xs i ≡ free_at xs k → i ≡ k)
-    (sym c.deref.ensures.value) (free_apart (orders_total g.R.Rank.LEN g.R.Rank.R c.args.order.now g.R.Rank.power).apart c.in_ok-unknowns.ensures)
+    (sym c.deref.ensures.value) (free_apart (order_total g.R.Rank.LEN g.R.Rank.R g.R.Rank.power c.args.order.now).apart c.in_ok-unknowns.ensures)
 
 pub sparse_rows_of-requires-clause-whole : goal.sparse_rows_of-requires-clause-whole
 sparse_rows_of-requires-clause-whole g c =

@@ -1,16 +1,17 @@
-use Rattle.std.proofs.Common.{◌≡◌, ◌≢◌, ◌+◌, ◌*◌, ◌-◌, drop, [], ap, sym, ◌∙◌, arith}
+use Rattle.std.proofs.Common.{◌≡◌, ◌≢◌, ◌-◌, drop, [], ap, sym, ◌∙◌, arith}
 use Rattle.tensor_defs.specs.Tensor.{digit, index_of}
-use Rattle.tensor_defs.specs.Words.{Word, level, plus, minus, begins_plus, minus_count, plus_count}
+use Rattle.tensor_defs.specs.Words.{level, plus, minus, begins_plus, minus_count, plus_count}
 use Rattle.tensor_rank.specs.IndexLaws.{nth}
 use Rattle.constraint_rows.specs.Gathering.{word_at}
 use Rattle.constraint_rows.proofs.WordLaws.{letter_one, letter_two, letter_three, letter_split_back, no_letter}
-use Rattle.constraint_rows.proofs.words.is_used.Goals as goal
+use Rattle.constraint_rows.proofs.choosing.counts_of.Goals as goal
 
 pub loop-place-init : goal.loop-place-init
 loop-place-init g c =
     let none : drop c.R-place.result (word_at g.R.Rank.R c.args.word) ≡ [] = no_letter g.R.Rank.R c.args.word c.R-place.result (omega (arith, c.R-place.ensures)) in
     record {
-      turns = sym (ap (λ (v : Word). plus_count v + 2 * minus_count v) none);
+      plus = sym (ap plus_count none);
+      minus = sym (ap minus_count none);
       begins = sym (ap begins_plus none);
       small = omega (arith, c.R-place.ensures);
     }
@@ -21,7 +22,8 @@ loop-place-preserved-in-1 g c =
     let h = c.loop-place.invariant.small in
     let split = letter_split_back g.R.Rank.R c.args.word c.loop-place.place level (omega arith) (omega arith) (letter_one _ digit_is) in
     record {
-      turns = c.loop-place.invariant.turns ∙ sym (ap (λ (v : Word). plus_count v + 2 * minus_count v) split);
+      plus = c.loop-place.invariant.plus ∙ sym (ap plus_count split);
+      minus = c.loop-place.invariant.minus ∙ sym (ap minus_count split);
       begins = c.loop-place.invariant.begins ∙ sym (ap begins_plus split);
       small = omega arith;
     }
@@ -30,11 +32,14 @@ pub loop-place-preserved-in-2 : goal.loop-place-preserved-in-2
 loop-place-preserved-in-2 g c =
     let digit_is : digit (nth (index_of g.R.Rank.R c.args.word) (c.loop-place.place - 1)) ≡ 2 = sym c.digit.ensures.value ∙ c.in-2.is in
     let h = c.loop-place.invariant.small in
-    let t = c.loop-place.invariant.turns in
+    let p = c.loop-place.invariant.plus in
+    let m = c.loop-place.invariant.minus in
     let split = letter_split_back g.R.Rank.R c.args.word c.loop-place.place plus (omega arith) (omega arith) (letter_two _ digit_is) in
-    let counts = ap (λ (v : Word). plus_count v + 2 * minus_count v) split in
+    let more = ap plus_count split in
+    let others = ap minus_count split in
     record {
-      turns = omega (arith, t, counts);
+      plus = omega (arith, p, more);
+      minus = omega (arith, m, others);
       begins = sym (ap begins_plus split);
       small = omega arith;
     }
@@ -45,11 +50,14 @@ loop-place-preserved g c =
     let not_one : digit (nth (index_of g.R.Rank.R c.args.word) (c.loop-place.place - 1)) ≢ 1 = omega arith in
     let not_two : digit (nth (index_of g.R.Rank.R c.args.word) (c.loop-place.place - 1)) ≢ 2 = omega arith in
     let h = c.loop-place.invariant.small in
-    let t = c.loop-place.invariant.turns in
+    let p = c.loop-place.invariant.plus in
+    let m = c.loop-place.invariant.minus in
     let split = letter_split_back g.R.Rank.R c.args.word c.loop-place.place minus (omega arith) (omega arith) (letter_three _ not_one not_two) in
-    let counts = ap (λ (v : Word). plus_count v + 2 * minus_count v) split in
+    let more = ap plus_count split in
+    let others = ap minus_count split in
     record {
-      turns = omega (arith, t, counts);
+      plus = omega (arith, p, more);
+      minus = omega (arith, m, others);
       begins = sym (ap begins_plus split);
       small = omega arith;
     }
