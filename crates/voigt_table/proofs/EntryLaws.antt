@@ -1,0 +1,174 @@
+-- Entries by their numbers.
+--   all_told        what a test says of each number below an end
+--   entries_listed, listed_at, at_listed    the entries in order are those of the numbers below the count
+--   number_told     the number of the entry of a number
+--   component_told  the component of the entry of a number
+--   entry_told      the block numbers of a component are those of the entry to which it belongs
+--   small_shift     the weight of an entry is 1, 2 or 4
+--   blocks_are      the blocks are together the indices of a rank
+use Rattle.std.proofs.Common.{◌≡◌, ℕ, zero, suc, ◌+◌, ◌^◌, ◌<◌, ◌≤◌, Bool, true, false, cond, nat_eq, nat_lt, List, [], ◌∷◌, ◌++◌, length, refl, ap, sym, ◌∙◌, subst, arith, inl, inr}
+use Rattle.std.specs.Prelude.{Contains}
+use Rattle.std.proofs.lemmas.Bool.{cases_lt, eqb-true}
+use Rattle.std.proofs.lemmas.List.Elements.{Contains-append_left, Contains-push, Contains-push_cases}
+use Rattle.tensor_defs.specs.declared.Weights.{Weights}
+use Rattle.tensor_defs.specs.declared.Weights.TheVariants.{Plain, Shear}
+use Rattle.tensor_defs.specs.Lists.{same_numbers_in}
+use Rattle.tensor_defs.specs.Orders.{block_numbers}
+use Rattle.tensor_defs.specs.Tensor.{component_number, index_of}
+use Rattle.tensor_defs.specs.Voigt.{VoigtEntry, component_of, entries, rank_of_blocks, shift}
+use Rattle.tensor_rank.specs.Orders.{AreBlocks}
+use Rattle.voigt_table.specs.declared.entries.Blocks.{Blocks}
+use Rattle.voigt_table.specs.declared.entries.Blocks.TheVariants.{Pair, VectorPair, PairVector, TwoPairs}
+use Rattle.voigt_table.specs.Blocks.{component_at, entry_at, entry_count, entry_number, entry_of, sizes_of}
+
+-- ---- tests of all numbers below an end
+abbrev all_below : (ℕ → Bool) → ℕ → Bool
+all_below p zero = true
+all_below p (suc n) = cond (p n) (all_below p n) false
+
+pub both : (a b : Bool) → cond a b false ≡ true → (a ≡ true) × (b ≡ true)
+both true b e = (refl, e)
+both false b e = cc
+
+all_told : (p : ℕ → Bool) (n : ℕ) → all_below p n ≡ true → (k : ℕ) → k < n → p k ≡ true
+all_told p zero e k l = absurd (omega arith)
+all_told p (suc n) e k l =
+    let parts = both (p n) (all_below p n) e in
+    elim (cases_lt k n) as (λ _. p k ≡ true) [
+      | inl h ↦ all_told p n parts.1 k h
+      | inr h ↦ let same : k ≡ n = omega arith in ap p same ∙ parts.0
+    ]
+
+pub same_numbers_told : (xs ys : List ℕ) → same_numbers_in xs ys ≡ true → xs ≡ ys
+same_numbers_told [] [] e = refl
+same_numbers_told [] (y ∷ ys) e = cc
+same_numbers_told (x ∷ xs) [] e = cc
+same_numbers_told (x ∷ xs) (y ∷ ys) e =
+    let parts = both (nat_eq x y) (same_numbers_in xs ys) e in
+    λ i. eqb-true x y parts.0 i ∷ same_numbers_told xs ys parts.1 i
+
+-- ---- the entries in order
+-- the first n values
+abbrev pub firsts : (ℕ → VoigtEntry) → ℕ → List VoigtEntry
+firsts f zero = []
+firsts f (suc n) = firsts f n ++ f n ∷ []
+
+pub entries_listed : (b : Blocks) → entries (sizes_of b) ≡ firsts (entry_at (sizes_of b)) (entry_count (sizes_of b))
+entries_listed Pair = refl
+entries_listed VectorPair = refl
+entries_listed PairVector = refl
+entries_listed TwoPairs = refl
+
+first_at : (f : ℕ → VoigtEntry) (n : ℕ) (e : VoigtEntry) → Contains (firsts f n) e → (k : ℕ) × (k < n) × (f k ≡ e)
+first_at f zero e h = absurd (omega arith)
+first_at f (suc n) e h = elim (Contains-push_cases (firsts f n) (f n) e h) as (λ _. (k : ℕ) × (k < suc n) × (f k ≡ e)) [
+  | inl c ↦
+      let rest = first_at f n e c in
+      (rest.0, omega (arith, rest.1), rest.2)
+  | inr s ↦ (n, omega arith, s)
+]
+
+at_first : (f : ℕ → VoigtEntry) (n k : ℕ) → k < n → Contains (firsts f n) (f k)
+at_first f zero k l = absurd (omega arith)
+at_first f (suc n) k l = elim (cases_lt k n) as (λ _. Contains (firsts f (suc n)) (f k)) [
+  | inl h ↦ Contains-append_left (firsts f n) (f n ∷ []) (f k) (at_first f n k h)
+  | inr h ↦
+      let same : n ≡ k = omega arith in
+      subst (λ (x : ℕ). Contains (firsts f n ++ f n ∷ []) (f x)) same (Contains-push (firsts f n) (f n))
+]
+
+pub listed_at : (b : Blocks) (e : VoigtEntry) → Contains (entries (sizes_of b)) e →
+    (k : ℕ) × (k < entry_count (sizes_of b)) × (entry_at (sizes_of b) k ≡ e)
+listed_at b e h =
+    first_at (entry_at (sizes_of b)) (entry_count (sizes_of b)) e
+    (subst (λ (es : List VoigtEntry). Contains es e) (entries_listed b) h)
+
+pub at_listed : (b : Blocks) (k : ℕ) → k < entry_count (sizes_of b) →
+    Contains (entries (sizes_of b)) (entry_at (sizes_of b) k)
+at_listed b k l =
+    subst (λ (es : List VoigtEntry). Contains es (entry_at (sizes_of b) k)) (sym (entries_listed b))
+    (at_first (entry_at (sizes_of b)) (entry_count (sizes_of b)) k l)
+
+-- ---- numbers
+abbrev has_number : Blocks → ℕ → Bool
+has_number b k = nat_eq (entry_number (sizes_of b) (entry_at (sizes_of b) k)) k
+
+numbers_checked : (b : Blocks) → all_below (has_number b) (entry_count (sizes_of b)) ≡ true
+numbers_checked Pair = refl
+numbers_checked VectorPair = refl
+numbers_checked PairVector = refl
+numbers_checked TwoPairs = refl
+
+pub number_told : (b : Blocks) (k : ℕ) → k < entry_count (sizes_of b) →
+    entry_number (sizes_of b) (entry_at (sizes_of b) k) ≡ k
+number_told b k l =
+    eqb-true _ _ (all_told (has_number b) (entry_count (sizes_of b)) (numbers_checked b) k l)
+
+-- ---- components
+abbrev has_component : Blocks → ℕ → Bool
+has_component b k =
+    cond (nat_eq (component_at b k) (component_number (component_of (sizes_of b) (entry_at (sizes_of b) k))))
+    (nat_eq (length (component_of (sizes_of b) (entry_at (sizes_of b) k))) (rank_of_blocks (sizes_of b))) false
+
+components_checked : (b : Blocks) → all_below (has_component b) (entry_count (sizes_of b)) ≡ true
+components_checked Pair = refl
+components_checked VectorPair = refl
+components_checked PairVector = refl
+components_checked TwoPairs = refl
+
+component_parts : (b : Blocks) (k : ℕ) → k < entry_count (sizes_of b) →
+    (component_at b k ≡ component_number (component_of (sizes_of b) (entry_at (sizes_of b) k)))
+    × (length (component_of (sizes_of b) (entry_at (sizes_of b) k)) ≡ rank_of_blocks (sizes_of b))
+component_parts b k l =
+    let parts = both _ _ (all_told (has_component b) (entry_count (sizes_of b)) (components_checked b) k l) in
+    (eqb-true _ _ parts.0, eqb-true _ _ parts.1)
+
+pub component_told : (b : Blocks) (k : ℕ) → k < entry_count (sizes_of b) →
+    component_at b k ≡ component_number (component_of (sizes_of b) (entry_at (sizes_of b) k))
+component_told b k l = (component_parts b k l).0
+
+pub component_rank : (b : Blocks) (k : ℕ) → k < entry_count (sizes_of b) →
+    length (component_of (sizes_of b) (entry_at (sizes_of b) k)) ≡ rank_of_blocks (sizes_of b)
+component_rank b k l = (component_parts b k l).1
+
+-- ---- entries of components
+abbrev has_entry_of : Blocks → ℕ → Bool
+has_entry_of b c =
+    same_numbers_in (entry_at (sizes_of b) (entry_of b c))
+    (block_numbers (sizes_of b) (index_of (rank_of_blocks (sizes_of b)) c))
+
+entries_checked : (b : Blocks) → all_below (has_entry_of b) (3 ^ rank_of_blocks (sizes_of b)) ≡ true
+entries_checked Pair = refl
+entries_checked VectorPair = refl
+entries_checked PairVector = refl
+entries_checked TwoPairs = refl
+
+pub entry_told : (b : Blocks) (c : ℕ) → c < 3 ^ rank_of_blocks (sizes_of b) →
+    entry_at (sizes_of b) (entry_of b c) ≡ block_numbers (sizes_of b) (index_of (rank_of_blocks (sizes_of b)) c)
+entry_told b c l =
+    same_numbers_told _ _ (all_told (has_entry_of b) (3 ^ rank_of_blocks (sizes_of b)) (entries_checked b) c l)
+
+-- ---- weights
+one_at_most : (t : Bool) → cond t 1 0 ≤ 1
+one_at_most true = omega arith
+one_at_most false = omega arith
+
+one_shear : (x : ℕ) → cond (nat_lt 3 x) 1 0 + 0 ≤ 2
+one_shear x = omega (arith, one_at_most (nat_lt 3 x))
+
+two_shears : (x y : ℕ) → cond (nat_lt 3 x) 1 0 + (cond (nat_lt 3 y) 1 0 + 0) ≤ 2
+two_shears x y = omega (arith, one_at_most (nat_lt 3 x), one_at_most (nat_lt 3 y))
+
+pub small_shift : (w : Weights) (b : Blocks) (k : ℕ) → shift w (entry_at (sizes_of b) k) ≤ 2
+small_shift Plain b k = omega arith
+small_shift Shear Pair k = one_shear _
+small_shift Shear VectorPair k = two_shears _ _
+small_shift Shear PairVector k = two_shears _ _
+small_shift Shear TwoPairs k = two_shears _ _
+
+-- ---- blocks
+pub blocks_are : (b : Blocks) (r : ℕ) → rank_of_blocks (sizes_of b) ≡ r → AreBlocks r (sizes_of b)
+blocks_are Pair r e = (((omega arith, omega arith), tt), e)
+blocks_are VectorPair r e = (((omega arith, omega arith), ((omega arith, omega arith), tt)), e)
+blocks_are PairVector r e = (((omega arith, omega arith), ((omega arith, omega arith), tt)), e)
+blocks_are TwoPairs r e = (((omega arith, omega arith), ((omega arith, omega arith), tt)), e)

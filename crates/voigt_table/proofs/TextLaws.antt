@@ -1,0 +1,184 @@
+-- The texts of entries.
+--   lines_listed    the lines of all entries, by their numbers
+--   entry_found, entry_absent    whether an entry is among the free ones
+--   sum_grown, sum_done    a sum, term by term
+--   free_line, sum_line    the line of an entry
+use Rattle.std.proofs.Common.{◌≡◌, ℕ, zero, suc, ◌+◌, ◌<◌, ◌≤◌, Bool, true, false, cond, List, [], ◌∷◌, ◌++◌, map, length, get_or, refl, ap, sym, ◌∙◌, subst, arith, eq-eqb}
+use Rattle.std.specs.List.{flat_map}
+use Rattle.std.specs.Prelude.{if◌then◌else◌, codes, take}
+use Rattle.std.proofs.lemmas.Grind.{flat_map-append}
+use Rattle.std.proofs.lemmas.List.{append_assoc, append-nil, length-map, take_all}
+use Rattle.tensor_defs.specs.Lists.{Each, same_numbers_in}
+use Rattle.tensor_defs.specs.Voigt.{VoigtEntry, entries}
+use Rattle.text_defs.specs.AnswerTexts.{entry_line, entry_name, has_entry, named, rational, row_text}
+use Rattle.text_defs.specs.NumberTexts.{NamedTerm, sum_text, term_text}
+use Rattle.reduced_form.specs.declared.forms.Term.{Term}
+use Rattle.reduced_form.specs.Forms.{row_at, term_of}
+use Rattle.reduced_form.specs.Texts.{lines_upto, placed, sum_from}
+use Rattle.reduced_form.proofs.TextLaws.{sum_whole}
+use Rattle.voigt_table.specs.declared.entries.Blocks.{Blocks}
+use Rattle.voigt_table.specs.Blocks.{entry_at, entry_count, entry_number, sizes_of}
+use Rattle.voigt_table.specs.Tables.{IsVoigtValue, VoigtValue, voigt_of}
+use Rattle.voigt_table.specs.Texts.{named_entries}
+use Rattle.voigt_table.proofs.EntryLaws.{entries_listed, firsts, number_told, same_numbers_told}
+
+-- ---- lines of entries by their numbers
+lines_first : (g : VoigtEntry → List ℕ) (h : ℕ → VoigtEntry) (n : ℕ) → lines_upto (λ k. g (h k)) n ≡ flat_map g (firsts h n)
+unfolding lines_upto
+lines_first g h zero = refl
+lines_first g h (suc n) =
+    ap (λ x. x ++ g (h n)) (lines_first g h n)
+    ∙ ap (λ x. flat_map g (firsts h n) ++ x) (sym (append-nil (g (h n))))
+    ∙ sym (flat_map-append g (firsts h n) (h n ∷ []))
+
+pub lines_listed : (b : Blocks) (g : VoigtEntry → List ℕ) →
+    lines_upto (λ k. g (entry_at (sizes_of b) k)) (entry_count (sizes_of b)) ≡ flat_map g (entries (sizes_of b))
+lines_listed b g =
+    lines_first g (entry_at (sizes_of b)) (entry_count (sizes_of b)) ∙ ap (flat_map g) (sym (entries_listed b))
+
+-- ---- whether an entry is free
+same_own : (xs : List ℕ) → same_numbers_in xs xs ≡ true
+same_own [] = refl
+same_own (x ∷ xs) = ap (λ t. cond t (same_numbers_in xs xs) false) (eq-eqb x x refl) ∙ same_own xs
+
+-- a test, or what is found later
+either : Bool → Bool → Bool
+either b y = if b then true else y
+
+either_here : (b y : Bool) → b ≡ true → either b y ≡ true
+unfolding either
+either_here true y e = refl
+either_here false y e = cc
+
+either_later : (b y : Bool) → y ≡ true → either b y ≡ true
+unfolding either
+either_later true y e = refl
+either_later false y e = e
+
+either_none : (b y : Bool) → b ≡ false → y ≡ false → either b y ≡ false
+unfolding either
+either_none true y e f = cc
+either_none false y e f = f
+
+not_true : (b : Bool) → (b ≡ true → ⊥) → b ≡ false
+not_true true h = absurd (h refl)
+not_true false h = refl
+
+pub entry_found : (h : ℕ → VoigtEntry) (free : List ℕ) (n k : ℕ) → k < length free → get_or free k 0 ≡ n →
+    has_entry (map h free) (h n) ≡ true
+unfolding either
+entry_found h [] n k l e = absurd (omega arith)
+entry_found h (x ∷ free) n zero l e =
+    either_here (same_numbers_in (h x) (h n)) (has_entry (map h free) (h n))
+    (ap (λ y. same_numbers_in (h y) (h n)) e ∙ same_own (h n))
+entry_found h (x ∷ free) n (suc k) l e =
+    either_later (same_numbers_in (h x) (h n)) (has_entry (map h free) (h n)) (entry_found h free n k (omega arith) e)
+
+absent : (h : ℕ → VoigtEntry) (back : VoigtEntry → ℕ) (end : ℕ) → ((k : ℕ) → k < end → back (h k) ≡ k) → (free : List ℕ) (n : ℕ) →
+    n < end → ((k : ℕ) → k < length free → get_or free k 0 < end) → ((k : ℕ) → k < length free → get_or free k 0 ≡ n → ⊥) →
+    has_entry (map h free) (h n) ≡ false
+unfolding either
+absent h back end told [] n l below away = refl
+absent h back end told (x ∷ free) n l below away =
+    either_none (same_numbers_in (h x) (h n)) (has_entry (map h free) (h n))
+    (not_true (same_numbers_in (h x) (h n)) (λ e. away 0 (omega arith)
+    (sym (told x (below 0 (omega arith))) ∙ ap back (same_numbers_told (h x) (h n) e) ∙ told n l)))
+    (absent h back end told free n l (λ k m. below (suc k) (omega arith)) (λ k m. away (suc k) (omega arith)))
+
+pub entry_absent : (b : Blocks) (free : List ℕ) (n : ℕ) → n < entry_count (sizes_of b) →
+    ((k : ℕ) → k < length free → get_or free k 0 < entry_count (sizes_of b)) →
+    ((k : ℕ) → k < length free → get_or free k 0 ≡ n → ⊥) →
+    has_entry (map (entry_at (sizes_of b)) free) (entry_at (sizes_of b) n) ≡ false
+entry_absent b free n l below away =
+    absent (entry_at (sizes_of b)) (entry_number (sizes_of b)) (entry_count (sizes_of b)) (number_told b) free n l below away
+
+-- ---- sums
+abbrev text_of : NamedTerm → List ℕ
+text_of t = term_text t.factor t.name
+
+sum_more : (f : Term → NamedTerm) (n : ℕ) (row : List Term) (p : ℕ) (t : Term) → p < length row → t ≡ get_or row p t →
+    sum_from n (map f (take (suc p) row)) ≡ sum_from n (map f (take p row)) ++ placed (n + p) (text_of (f t))
+sum_more f n [] p t l e = absurd (omega arith)
+sum_more f n (x ∷ row) zero t l e =
+    let same : n ≡ n + zero = omega arith in
+    append-nil (placed n (text_of (f x))) ∙ (λ i. placed (same i) (text_of (f (sym e i))))
+sum_more f n (x ∷ row) (suc p) t l e =
+    let place : suc n + p ≡ n + suc p = omega arith in
+    ap (λ y. placed n (text_of (f x)) ++ y) (sum_more f (suc n) row p t (omega arith) e)
+    ∙ ap (λ k. placed n (text_of (f x)) ++ (sum_from (suc n) (map f (take p row)) ++ placed k (text_of (f t)))) place
+    ∙ sym (append_assoc (placed n (text_of (f x))) (sum_from (suc n) (map f (take p row))) (placed (n + suc p) (text_of (f t))))
+
+-- one more term of a row
+pub sum_grown : (f : Term → NamedTerm) (row : List Term) (p : ℕ) (t : Term) (old text out new : List ℕ) → p < length row →
+    t ≡ get_or row p t → text ≡ text_of (f t) → out ≡ old ++ sum_from 0 (map f (take p row)) → new ≡ out ++ placed p text →
+    new ≡ old ++ sum_from 0 (map f (take (p + 1) row))
+sum_grown f row p t old text out new l e is was grown =
+    let next : suc p ≡ p + 1 = omega arith in
+    let start : 0 + p ≡ p = omega arith in
+    grown ∙ (λ i. was i ++ placed p (is i))
+    ∙ append_assoc old (sum_from 0 (map f (take p row))) (placed p (text_of (f t)))
+    ∙ ap (λ k. old ++ (sum_from 0 (map f (take p row)) ++ placed k (text_of (f t)))) (sym start)
+    ∙ ap (λ x. old ++ x) (sym (sum_more f 0 row p t l e))
+    ∙ ap (λ k. old ++ sum_from 0 (map f (take k row))) next
+
+pub sum_done : (f : Term → NamedTerm) (row : List Term) (p : ℕ) → 0 < length row → length row ≤ p →
+    sum_from 0 (map f (take p row)) ≡ sum_text (map f row)
+sum_done f row p some end =
+    ap (λ xs. sum_from 0 (map f xs)) (take_all p row end)
+    ∙ sum_whole (map f row) (subst (λ n. 0 < n) (sym (length-map row f)) some)
+
+-- ---- lines
+name_read : (h : ℕ → List ℕ) (g : VoigtEntry → List ℕ) (at : ℕ → VoigtEntry) (free : List ℕ) → ((n : ℕ) → g (at n) ≡ h n) → (k : ℕ) →
+    k < length free → get_or (map g (map at free)) k [] ≡ h (get_or free k 0)
+name_read h g at [] s k l = absurd (omega arith)
+name_read h g at (x ∷ free) s zero l = s x
+name_read h g at (x ∷ free) s (suc k) l = name_read h g at free s k (omega arith)
+
+row_named : (v : VoigtValue) (row : List Term) → Each (λ t. t.free < length v.free) row →
+    named (map (entry_name v.weights) (voigt_of v).free) (map term_of row) ≡ named_entries v row
+row_named v [] e = refl
+row_named v (t ∷ row) e =
+    λ i. record {
+      factor = rational t.factor;
+      name = name_read (λ n. entry_name v.weights (entry_at v.sizes n)) (entry_name v.weights) (entry_at v.sizes) v.free (λ n. refl) t.free e.0 i;
+    } ∷ row_named v row e.1 i
+
+-- the terms of the entry of a number, named
+terms_named : (b : Blocks) (v : VoigtValue) (n : ℕ) → v.sizes ≡ sizes_of b → n < entry_count v.sizes →
+    Each (λ t. t.free < length v.free) (row_at v.rows n) →
+    named (map (entry_name v.weights) (voigt_of v).free) ((voigt_of v).terms (entry_at v.sizes n)) ≡ named_entries v (row_at v.rows n)
+terms_named b v n is l e =
+    let number : entry_number v.sizes (entry_at v.sizes n) ≡ n =
+    subst (λ (bs : List ℕ). n < entry_count bs → entry_number bs (entry_at bs n) ≡ n) (sym is) (number_told b n) l in
+    ap (λ k. named (map (entry_name v.weights) (voigt_of v).free) (map term_of (row_at v.rows k))) number
+    ∙ row_named v (row_at v.rows n) e
+
+equation_joined : (old name sum : List ℕ) → (((old ++ name) ++ (32 ∷ 61 ∷ 32 ∷ [])) ++ sum) ++ 10 ∷ [] ≡ old ++ ((name ++ 32 ∷ (61 ∷ 32 ∷ sum)) ++ 10 ∷ [])
+equation_joined old name sum =
+    ap (λ x. (x ++ sum) ++ 10 ∷ []) (append_assoc old name (32 ∷ 61 ∷ 32 ∷ []))
+    ∙ ap (λ x. x ++ 10 ∷ []) (append_assoc old (name ++ (32 ∷ 61 ∷ 32 ∷ [])) sum)
+    ∙ append_assoc old ((name ++ (32 ∷ 61 ∷ 32 ∷ [])) ++ sum) (10 ∷ [])
+    ∙ ap (λ x. old ++ (x ++ 10 ∷ [])) (append_assoc name (32 ∷ 61 ∷ 32 ∷ []) sum)
+
+free_joined : (old name : List ℕ) → (old ++ name) ++ (32 ∷ (codes "free" ++ 10 ∷ [])) ≡ old ++ ((name ++ 32 ∷ codes "free") ++ 10 ∷ [])
+free_joined old name =
+    append_assoc old name (32 ∷ (codes "free" ++ 10 ∷ [])) ∙ ap (λ x. old ++ x) (sym (append_assoc name (32 ∷ codes "free") (10 ∷ [])))
+
+pub free_line : (v : VoigtValue) (e : VoigtEntry) (old one new name : List ℕ) → has_entry (voigt_of v).free e ≡ true →
+    name ≡ entry_name v.weights e → one ≡ old ++ name → new ≡ one ++ (32 ∷ (codes "free" ++ 10 ∷ [])) →
+    new ≡ old ++ entry_line v.weights (voigt_of v) e
+free_line v e old one new name free is a b =
+    b ∙ ap (λ x. x ++ (32 ∷ (codes "free" ++ 10 ∷ []))) (a ∙ ap (λ x. old ++ x) is) ∙ free_joined old (entry_name v.weights e)
+    ∙ ap (λ t. old ++ row_text t (entry_name v.weights e) (named (map (entry_name v.weights) (voigt_of v).free) ((voigt_of v).terms e))) (sym free)
+
+pub sum_line : (b : Blocks) (v : VoigtValue) (n : ℕ) (old one two three new name : List ℕ) → v.sizes ≡ sizes_of b → n < entry_count v.sizes →
+    IsVoigtValue v → has_entry (voigt_of v).free (entry_at v.sizes n) ≡ false →
+    name ≡ entry_name v.weights (entry_at v.sizes n) → one ≡ old ++ name → two ≡ one ++ (32 ∷ 61 ∷ 32 ∷ []) →
+    three ≡ two ++ sum_text (named_entries v (row_at v.rows n)) → new ≡ three ++ 10 ∷ [] →
+    new ≡ old ++ entry_line v.weights (voigt_of v) (entry_at v.sizes n)
+sum_line b v n old one two three new name sizes below whole free is a p d e =
+    let the_name = entry_name v.weights (entry_at v.sizes n) in
+    e ∙ ap (λ x. x ++ 10 ∷ []) (d ∙ ap (λ x. x ++ sum_text (named_entries v (row_at v.rows n))) (p ∙ ap (λ x. x ++ (32 ∷ 61 ∷ 32 ∷ [])) (a ∙ ap (λ x. old ++ x) is)))
+    ∙ equation_joined old the_name (sum_text (named_entries v (row_at v.rows n)))
+    ∙ ap (λ ts. old ++ row_text false the_name ts) (sym (terms_named b v n sizes below (whole.named n below)))
+    ∙ ap (λ t. old ++ row_text t the_name (named (map (entry_name v.weights) (voigt_of v).free) ((voigt_of v).terms (entry_at v.sizes n)))) (sym free)

@@ -1,0 +1,27 @@
+use Rattle.std.proofs.Common.{◌≡◌, ◌++◌, ℕ, List, false, ap, sym, ◌∙◌, subst}
+use Rattle.text_defs.specs.AnswerTexts.{entry_name, has_entry}
+use Rattle.text_defs.specs.NumberTexts.{sum_text}
+use Rattle.reduced_form.specs.declared.forms.Term.{Term}
+use Rattle.reduced_form.specs.Forms.{row_at}
+use Rattle.voigt_table.specs.Blocks.{entry_at, sizes_of}
+use Rattle.voigt_table.specs.Tables.{IsVoigtValue, VoigtValue, voigt_of}
+use Rattle.voigt_table.specs.Texts.{named_entries}
+use Rattle.voigt_table.proofs.TextLaws.{sum_line}
+use Rattle.voigt_table.proofs.writing.write_line.Goals as goal
+
+pub returns-clause-ok : goal.returns-clause-ok
+returns-clause-ok c =
+    let v : VoigtValue = c.args.table.now in
+    let n : ℕ = c.args.number in
+    let b = c.table.inside.blocks in
+    let sizes : v.sizes ≡ sizes_of b = ap (λ x. x.sizes) (sym c.table.view_is) in
+    let weights : c.table.inside.weights ≡ v.weights = ap (λ x. x.weights) c.table.view_is in
+    let whole : IsVoigtValue v = subst (λ (x : VoigtValue). IsVoigtValue x) c.table.view_is c.table.invariant in
+    let name : c.as_slice.result.now ≡ entry_name v.weights (entry_at v.sizes n) =
+    c.as_slice.ensures ∙ c.name_of-name.ensures.name ∙ (λ i. entry_name (weights i) (c.entry.ensures i)) in
+    let free : has_entry (voigt_of v).free (entry_at v.sizes n) ≡ false = sym c.is_free.ensures ∙ c.if-is_free.false in
+    let kept : c.write_sum.new.out.items ≡ c.append_to-2.new.out.items ++ sum_text (named_entries v (row_at v.rows n)) =
+    c.in_ok-write_sum.ensures.ok ∙ ap (λ (ts : List Term). c.append_to-2.new.out.items ++ sum_text (named_entries v ts)) c.row.ensures in
+    sum_line b v n c.args.out.now.items c.append_to.new.out.items c.append_to-2.new.out.items c.write_sum.new.out.items
+    c.append_to-3.new.out.items c.as_slice.result.now sizes c.requires whole free name c.in_ok-append_to.ensures.ok
+    c.in_ok-append_to-3.ensures.ok kept c.in_ok-append_to-4.ensures.ok

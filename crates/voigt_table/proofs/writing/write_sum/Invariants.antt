@@ -1,0 +1,11 @@
+use Rattle.std.proofs.Common.{◌≡◌, ◌++◌, ◌≤◌, vec_capacity}
+use Rattle.std.specs.Prelude.{take}
+use Rattle.reduced_form.specs.Texts.{sum_from}
+use Rattle.voigt_table.specs.Texts.{named_entries}
+use Rattle.voigt_table.proofs.writing.write_sum.Given as goal
+
+abbrev pub invariant-loop-place : goal.invariant-loop-place
+invariant-loop-place l = record {
+  items : l.out.items ≡ l.initial.out.items ++ sum_from 0 (named_entries l.table (take l.place l.row));
+  capacity : vec_capacity l.initial.out ≤ vec_capacity l.out;
+}

@@ -1,0 +1,4 @@
+pub mod Blocks
+pub mod Tables
+pub mod Weighing
+pub mod Texts

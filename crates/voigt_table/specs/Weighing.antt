@@ -1,0 +1,65 @@
+-- The terms of entries, weighted.
+--   IsWeighted      a term with its factor weighted
+--   AreWeightedTerms    those of a row
+--   WeighsTooMuch   a weighted factor of a row reaches the limit
+--   IsUnits         factors are 1 or -1
+--   entry_of_place  the entry of a free component, by its place
+--   IsWeighed       the table whose rows are the weighted ones of a component table
+--   TellsWeighed    that table, or a weighted factor that reaches the limit, or want of memory
+-- Source: International Tables D 1.1 (factors of 2 and 4 for compliances).
+use Rattle.std.specs.Prelude.{◌≡◌, ℕ, ◌<◌, List, Contains, length, get_or, Result, Ok, Err}
+use Rattle.std.specs.List.{AllZip}
+use Rattle.tensor_defs.specs.declared.Weights.{Weights}
+use Rattle.tensor_defs.specs.Number.{ReachesLimit, value_of}
+use Rattle.tensor_defs.specs.Orders.{block_numbers}
+use Rattle.tensor_defs.specs.Tensor.{component_number, index_of}
+use Rattle.tensor_defs.specs.Voigt.{VoigtEntry, component_of, weighted}
+use Rattle.exact_frac.specs.Held.{IsHeldAs}
+use Rattle.reduced_form.specs.declared.forms.Term.{Term}
+use Rattle.reduced_form.specs.declared.memory.SolveFault.{SolveFault}
+use Rattle.reduced_form.specs.declared.memory.SolveFault.TheVariants.{TooLarge, NoMemory}
+use Rattle.reduced_form.specs.Forms.{FormValue, free_at, row_at}
+use Rattle.voigt_table.specs.Blocks.{entry_at, entry_count}
+use Rattle.voigt_table.specs.Tables.{VoigtValue}
+
+pub record IsWeighted (w : Weights) (frees : ℕ → VoigtEntry) (e : VoigtEntry) (t u : Term) : Type 0 where
+  pub free : u.free ≡ t.free
+  pub factor : IsHeldAs (weighted w e (frees t.free) (value_of t.factor)) u.factor
+
+abbrev pub AreWeightedTerms : Weights → (ℕ → VoigtEntry) → VoigtEntry → List Term → List Term → Type 0
+AreWeightedTerms w frees e ts us = AllZip (IsWeighted w frees e) ts us
+
+abbrev pub WeighsTooMuch : Weights → (ℕ → VoigtEntry) → VoigtEntry → List Term → Type 0
+WeighsTooMuch w frees e ts =
+    (t : Term) × Contains ts t × ReachesLimit (weighted w e (frees t.free) (value_of t.factor))
+
+-- the entries of free components that are kept by the numbers of their entries
+abbrev pub entry_of_place : List ℕ → List ℕ → ℕ → VoigtEntry
+entry_of_place bs free k = entry_at bs (get_or free k 0)
+
+-- the terms of the component of an entry
+abbrev pub entry_terms : List ℕ → FormValue → ℕ → List Term
+entry_terms bs f k = row_at f.rows (component_number (component_of bs (entry_at bs k)))
+
+-- for a component table of rank r
+pub record IsWeighed (r : ℕ) (w : Weights) (bs : List ℕ) (f : FormValue) (v : VoigtValue) : Type 0 where
+  pub weights : v.weights ≡ w
+  pub sizes : v.sizes ≡ bs
+  pub free_len : length v.free ≡ length f.free
+  pub free : (k : ℕ) → k < length f.free →
+      entry_of_place bs v.free k ≡ block_numbers bs (index_of r (free_at f.free k))
+  pub rows : (k : ℕ) → k < entry_count bs →
+      AreWeightedTerms w (entry_of_place bs v.free) (entry_at bs k) (entry_terms bs f k) (row_at v.rows k)
+
+pub record WeighsOver (r : ℕ) (w : Weights) (bs : List ℕ) (f : FormValue) : Type 0 where
+  pub frees : List ℕ
+  pub free : (k : ℕ) → k < length f.free →
+      entry_of_place bs frees k ≡ block_numbers bs (index_of r (free_at f.free k))
+  pub entry : ℕ
+  pub below : entry < entry_count bs
+  pub over : WeighsTooMuch w (entry_of_place bs frees) (entry_at bs entry) (entry_terms bs f entry)
+
+abbrev pub TellsWeighed : ℕ → Weights → List ℕ → FormValue → Result VoigtValue SolveFault → Type 0
+TellsWeighed r w bs f (Ok v) = IsWeighed r w bs f v
+TellsWeighed r w bs f (Err TooLarge) = WeighsOver r w bs f
+TellsWeighed r w bs f (Err NoMemory) = Unit {0}
