@@ -1,0 +1,4 @@
+pub mod TextLaws
+pub mod Listing
+pub mod StateTexts
+pub mod FaultLaws

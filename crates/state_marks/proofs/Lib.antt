@@ -1,0 +1,12 @@
+pub mod Refusals
+pub mod Reach
+pub mod Factors
+pub mod Parts
+pub mod Skips
+pub mod RowLaws
+pub mod Linear
+pub mod Distinct
+pub mod Bounds
+pub mod RowTells
+pub mod StateLaws
+pub mod MarkLaws

@@ -1,0 +1,4 @@
+pub mod Reaching
+pub mod Sums
+pub mod Told
+pub mod Adding
