@@ -64,6 +64,9 @@ fn never_fails(rt: HostRuntime) -> Result<(), Fail> {
     assert!(rt; step(&mut source, &mut sink) == (Some(5), Some(5)));
     assert!(rt; source.remaining() == b"f".as_slice());
     assert!(rt; sink.taken() == b"abcde".as_slice());
+    // With memory at hand it goes on telling its bytes.
+    assert!(rt; step(&mut source, &mut sink) == (Some(1), Some(1)));
+    assert!(rt; sink.taken() == TEXT);
     Ok(())
 }
 
@@ -107,4 +110,68 @@ fn reads_and_writes_outside(rt: HostRuntime) {
     assert!(rt; step(&mut reader, &mut failing) == (Some(1), None));
     assert!(rt; step(&mut reader, &mut writer) == (None, Some(0)));
     assert!(rt; bytes.as_slice() == b"abcde".as_slice());
+}
+
+/// Is interrupted at the first call where it should be, and takes one byte at a time.
+#[derive(Drop)]
+struct Slow<T> {
+    inner: T,
+    interrupted: bool,
+}
+
+impl<T> Slow<T> {
+    /// Fails once.
+    fn interrupt(&mut self) -> io::Result<()> {
+        if self.interrupted {
+            self.interrupted = false;
+            return Err(io::ErrorKind::Interrupted.into());
+        }
+        Ok(())
+    }
+}
+
+impl<R: Read> Read for Slow<R> {
+    fn read(&mut self, into: &mut [u8]) -> io::Result<usize> {
+        self.interrupt()?;
+        self.inner.read(into)
+    }
+}
+
+impl<W: Write> Write for Slow<W> {
+    fn write(&mut self, piece: &[u8]) -> io::Result<usize> {
+        self.interrupt()?;
+        self.inner.write(&piece[..piece.len().min(1)])
+    }
+
+    fn flush(&mut self) -> io::Result<()> {
+        self.inner.flush()
+    }
+}
+
+/// An interrupted read is a fault, and the next read goes on; at the end of the input each read tells so.
+#[test]
+fn reads_to_the_end(rt: HostRuntime) {
+    let mut reader = StdSource::new(Slow {
+        inner: TEXT,
+        interrupted: true,
+    });
+    let mut into = [0; 5];
+    assert!(rt; reader.read(&mut into).is_err());
+    assert!(rt; reader.read(&mut into) == Ok(5));
+    assert!(rt; reader.read(&mut into) == Ok(1));
+    assert!(rt; reader.read(&mut into) == Ok(0));
+    assert!(rt; reader.read(&mut into) == Ok(0));
+}
+
+/// A write that fails ends the piece, and short writes are no faults.
+#[test]
+fn writes_byte_by_byte(rt: HostRuntime) {
+    let mut bytes = Vec::new(rt.alloc());
+    let mut writer = StdSink::new(Slow {
+        inner: &mut bytes,
+        interrupted: true,
+    });
+    assert!(rt; write_all_of(&mut writer, TEXT).is_err());
+    assert!(rt; write_all_of(&mut writer, TEXT).is_ok());
+    assert!(rt; bytes.as_slice() == TEXT);
 }

@@ -1,0 +1,5 @@
+mod Words
+mod LineAnswers
+mod StopLaws
+mod Grown
+mod ToldRequests

@@ -1,0 +1,93 @@
+-- The answer to a request, or why it has none.
+--   group_at, jahn_at    a read word with the column of its first byte
+--   IsNear          a group word begins within the longest line
+--   IsUnaccepted    why a group is refused
+--   IsOpen          no refusal applies to the request
+--   IsGrownBy       a list grew by the answer to a request that isn't refused
+--   IsStop          the refusal is the first that applies to the request; want of memory is free
+--   IsStateStop     what becomes of states that can't be given
+--   IsGroupStop     the refusal of a group, for each request that begins with such groups
+--   IsOverRank      why a tensor is refused
+--   IsShortList, IsTold    a list of at most eight Jahn words, and a fact of these words
+--   IsFirstStop     the refusal stands at the first of some Jahn words of which a fact holds
+--   IsTooLarge      the refusal stands at a Jahn word whose numbers grow too large
+--   IsJoinedOnto    a list grew by the answers for some Jahn words
+-- Source: this project's own.
+use Rattle.std.specs.Prelude.{◌≡◌, ◌+◌, ◌<◌, ◌≤◌, ℕ, List, ◌++◌, length, map}
+use Rattle.tensor_defs.specs.Group.{IsAccepted}
+use Rattle.tensor_defs.specs.Jahn.{JahnSymbol, rank}
+use Rattle.text_defs.specs.Answers.{AnswersRequest, AreJoined}
+use Rattle.text_defs.specs.Refusals.{AreAccepted, FirstAt, HasShape, InRank, IsNotSub, JahnGrows, RefusesRequest, groups_of, jahns_of}
+use Rattle.text_defs.specs.Requests.{GroupAt, JahnAt, Request}
+use Rattle.request_lines.specs.Readings.{TellsJahn, TellsList}
+use Rattle.request_lines.specs.declared.Named.{Named}
+use Rattle.request_lines.specs.declared.Span.{Span}
+use Rattle.line_runs.specs.Words.{word_of}
+use Rattle.line_runs.specs.declared.refusals.Word.{Word}
+use Rattle.line_runs.specs.declared.refusals.Word.TheVariants.{Primes, Rank, TooLarge, NotSub}
+use Rattle.coset_states.specs.declared.StateFault.{StateFault}
+use Rattle.coset_states.specs.declared.StateFault.TheVariants as State
+use Rattle.line_answers.specs.declared.stops.NoAnswer.{NoAnswer}
+use Rattle.line_answers.specs.declared.stops.NoAnswer.TheVariants.{Refused, NoMemory}
+
+abbrev pub group_at : Named → GroupAt
+group_at g = record { symbol = g.tree; column = g.start + 1 }
+
+abbrev pub jahn_at : Span → JahnSymbol → JahnAt
+jahn_at j tree = record { jahn = tree; column = j.start + 1 }
+
+abbrev pub IsNear : Named → Type 0
+IsNear g = g.start ≤ 4000
+
+abbrev pub IsUnaccepted : Named → NoAnswer → Type 0
+IsUnaccepted g (Refused r) = (r ≡ record { word = Primes; column = g.start + 1 }) × (¬ IsAccepted g.tree)
+IsUnaccepted g NoMemory = Unit {0}
+
+pub record IsOpen (q : Request) : Type 0 where
+  pub accepted : AreAccepted q
+  pub in_rank : InRank q
+  pub has_shape : HasShape q
+  pub within : (k c : ℕ) → IsNotSub q k c → ⊥
+  pub calm : (c : ℕ) → FirstAt (JahnGrows q) (jahns_of q) c → ⊥
+
+pub record IsGrownBy (q : Request) (old new : List ℕ) : Type 0 where
+  pub answer : List ℕ
+  pub answers : AnswersRequest q answer
+  pub is_open : IsOpen q
+  pub grown : new ≡ old ++ answer
+
+abbrev pub IsStop : Request → NoAnswer → Type 0
+IsStop q (Refused r) = RefusesRequest q (word_of r.word) r.column
+IsStop q NoMemory = Unit {0}
+
+-- ---- lists of Jahn words
+abbrev pub IsTold : List ℕ → Span → (List JahnAt → Type 0) → Type 0
+IsTold line list Fact = (js : List JahnAt) → TellsList line list js → length js ≤ 8 → Fact js
+
+-- a list of at most eight words
+abbrev pub IsShortList : List ℕ → Span → Type 0
+IsShortList line list = (js : List JahnAt) × TellsList line list js × (length js ≤ 8)
+
+abbrev pub IsFirstStop : Word → (JahnAt → Type 0) → NoAnswer → List JahnAt → Type 0
+IsFirstStop word Fact (Refused r) js = (r.word ≡ word) × FirstAt Fact js r.column
+IsFirstStop word Fact NoMemory js = Unit {0}
+
+abbrev pub IsJoinedOnto : (JahnSymbol → List ℕ → Type 0) → List ℕ → List ℕ → List JahnAt → Type 0
+IsJoinedOnto Text old new js = (bytes : List ℕ) × AreJoined Text js bytes × (new ≡ old ++ bytes)
+
+abbrev pub IsTooLarge : Type 0 → ℕ → NoAnswer → Type 0
+IsTooLarge Grown column (Refused r) = (r ≡ record { word = TooLarge; column = column }) × Grown
+IsTooLarge Grown column NoMemory = Unit {0}
+
+abbrev pub IsStateStop : StateFault → Named → NoAnswer → Type 0
+IsStateStop (State.NotSubgroup first) f e = e ≡ Refused (record { word = NotSub first; column = f.start + 1 })
+IsStateStop State.NoMemory f e = e ≡ NoMemory
+
+-- the stop of a request whose groups begin with these
+abbrev pub IsGroupStop : List Named → NoAnswer → Type 0
+IsGroupStop gs e = (q : Request) (more : List GroupAt) → groups_of q ≡ map group_at gs ++ more → IsStop q e
+
+abbrev pub IsOverRank : List ℕ → Span → NoAnswer → Type 0
+IsOverRank line j (Refused r) =
+    (r ≡ record { word = Rank; column = j.start + 1 }) × ((b : JahnAt) → TellsJahn line j b → 6 < rank b.jahn)
+IsOverRank line j NoMemory = Unit {0}

@@ -1,0 +1,11 @@
+//! The answer of a line: the request that it spells, its symbols, and the answer of each kind, or the first refusal.
+#![tactic(auto)]
+
+mod answers;
+mod kinds;
+mod stops;
+mod symbols;
+mod tensors;
+
+pub use answers::{Answers, answer_line};
+pub use line_runs::{Format, LineEnd, NoMemory};

@@ -1,0 +1,6 @@
+mod LineLemmas
+pub mod LongLines
+mod AnswerLemmas
+mod Cuts
+mod Progress
+mod Exits

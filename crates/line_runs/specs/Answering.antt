@@ -1,0 +1,34 @@
+-- How one line is answered, and its format.
+--   Ends            a list grew by the answer of the line, and the end tells whether it is passed or refused
+--   IsQuick         the answer of the line needs no memory beyond the room that is taken before the first read
+--   AreQuick        so does that of each of some lines that are numbered from a number
+--   IsTold          the format of an input, told at a line: at the first one by its bytes, later as before
+-- Source: this project's own.
+use Rattle.std.specs.Prelude.{◌≡◌, ◌≢◌, ◌⊎◌, ◌↔◌, ℕ, ◌+◌, List, [], ◌∷◌, ◌++◌}
+use Rattle.text_defs.specs.declared.Format.{Format}
+use Rattle.text_defs.specs.Refusals.{IsPassed, IsRefused, Refuses}
+use Rattle.text_defs.specs.Refusals.RefusalWord.{Long, Syntax}
+use Rattle.text_defs.specs.Answers.{IsAnswer}
+use Rattle.text_defs.specs.Lines.{format_told}
+use Rattle.line_runs.specs.declared.lines.LineEnd.{LineEnd}
+use Rattle.line_runs.specs.declared.lines.LineEnd.TheVariants.{Empty, Refused}
+
+pub record Ends (format : Format) (number : ℕ) (line old new : List ℕ) (end : LineEnd) : Type 0 where
+  pub answer : List ℕ
+  pub is_answer : IsAnswer format number line answer
+  pub grown : new ≡ old ++ answer
+  pub refused : (end ≡ Refused) ↔ IsRefused format number line
+  pub passed : (end ≡ Empty) ↔ IsPassed format number line
+
+abbrev pub IsQuick : Format → ℕ → List ℕ → Type 0
+IsQuick format number line =
+    IsPassed format number line
+    ⊎ ((column : ℕ) × (Refuses format line Long column ⊎ Refuses format line Syntax column))
+
+abbrev pub AreQuick : Format → ℕ → List (List ℕ) → Type 0
+AreQuick format number [] = Unit {0}
+AreQuick format number (l ∷ ls) = IsQuick format number l × AreQuick format (number + 1) ls
+
+abbrev pub IsTold : ℕ → Format → List ℕ → Format → Type 0
+IsTold number before line format =
+    ((number ≡ 1) × (format ≡ format_told (line ∷ []))) ⊎ ((number ≢ 1) × (format ≡ before))

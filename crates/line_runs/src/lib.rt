@@ -1,0 +1,16 @@
+//! The lines of an input, each answered as it comes: one buffer for the line that is read, the refusals, and the run over a
+//! source and a sink. What answers a line is given.
+#![tactic(auto)]
+
+mod buffer;
+mod lines;
+mod outcome;
+mod refusals;
+mod top;
+
+pub use lines::{AnswersLines, LineEnd, refuse, refuse_long};
+pub use outcome::Outcome;
+pub use refusals::{Refusal, Word, longest};
+pub use tensor_ports::NoMemory;
+pub use text_defs::Format;
+pub use top::run_within;

@@ -1,9 +1,0 @@
-pub mod Stage
-pub mod Laws
-pub mod Words
-pub mod Asked
-pub mod Reads
-pub mod Outcomes
-pub mod Stops
-pub mod Runs
-pub mod Ends
