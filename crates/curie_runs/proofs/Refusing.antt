@@ -1,0 +1,61 @@
+-- Words that have an answer are not refused.
+use Rattle.std.proofs.Common.{◌≡◌, ℕ, ◌+◌, ◌≤◌, List, [], ◌∷◌, cond, eqb, length, get_or, refl, ap, sym, subst, ◌∙◌, arith, inl, inr}
+use Rattle.tensor_defs.specs.Jahn.{JahnSymbol, rank}
+use Rattle.text_laws.specs.Laws.{OneJahnSymbol}
+use Rattle.limiting_defs.specs.declared.Curie.{Curie}
+use Rattle.limiting_defs.specs.declared.Curie.TheVariants.{Inf, InfM, Inf2, InfOverM, InfOverMM}
+use Rattle.limiting_groups.specs.CurieTables.{CurieGrows}
+use Rattle.tool_runs.specs.Tools.{FirstLongFrom, NoneLong, Words}
+use Rattle.tool_runs.specs.declared.refusals.RefusalName.{RefusalName}
+use Rattle.tool_runs.specs.declared.refusals.RefusalName.TheVariants as Name
+use Rattle.tool_runs.specs.declared.refusals.ToolRefusal.{ToolRefusal}
+use Rattle.curie_runs.specs.CurieTexts.{curie_text}
+use Rattle.curie_runs.specs.CurieWords.{IsAsked, Refuses, RefusesAs}
+
+-- a group by its text
+abbrev curie_of : List ℕ → Curie
+curie_of u =
+    cond (eqb (length u) 3) Inf (cond (eqb (get_or u 3 0) 109) InfM (cond (eqb (get_or u 3 0) 50) Inf2
+    (cond (eqb (length u) 5) InfOverM InfOverMM)))
+
+read_back : (g : Curie) → curie_of (curie_text g) ≡ g
+read_back Inf = refl
+read_back InfM = refl
+read_back Inf2 = refl
+read_back InfOverM = refl
+read_back InfOverMM = refl
+
+one_group : (g h : Curie) (word : List ℕ) → word ≡ curie_text g → word ≡ curie_text h → g ≡ h
+one_group g h word p q = sym (read_back g) ∙ ap curie_of (sym p ∙ q) ∙ read_back h
+
+none_first : (ws : Words) (k n : ℕ) → NoneLong ws → FirstLongFrom k ws n → ⊥
+none_first [] k n none first = first
+none_first (w ∷ ws) k n none (inl x) = let a = none.0 in let b = x.0 in omega arith
+none_first (w ∷ ws) k n none (inr x) = none_first ws (k + 1) n none.1 x.1
+
+module _ (law : OneJahnSymbol) (words : Words) (group : Curie) (j : JahnSymbol) (asked : IsAsked words group j)
+    (small : rank j ≤ 6) (calm : CurieGrows j group → ⊥) where
+  symbol_same : (h : Curie) (k : JahnSymbol) → IsAsked words h k → j ≡ k
+  symbol_same h k other = law (get_or words 1 []) j k asked.symbol_is other.symbol_is
+
+  group_same : (h : Curie) (k : JahnSymbol) → IsAsked words h k → group ≡ h
+  group_same h k other = one_group group h (get_or words 0 []) asked.group_is other.group_is
+
+  not_refused_as : (name : RefusalName) (number column : ℕ) → RefusesAs name words number column → ⊥
+  not_refused_as Name.Long number column h = none_first words 1 number asked.short h.0
+  not_refused_as Name.Syntax number column (none, place, first, is) = elim first [
+    | inl x ↦ x.0.none (group, asked.group_is)
+    | inr x ↦ x.1.none (j, asked.symbol_is)
+  ]
+  not_refused_as Name.Primes number column h = h
+  not_refused_as Name.Rank number column (h, k, other, more, p, q) =
+      let e : rank j ≡ rank k = ap rank (symbol_same h k other) in omega arith
+  not_refused_as (Name.NotSub first) number column h = h
+  not_refused_as Name.TooLarge number column (h, k, other, less, grows, p, q) =
+      calm (subst (λ (g : Curie). CurieGrows j g) (sym (group_same h k other))
+      (subst (λ (i : JahnSymbol). CurieGrows i h) (sym (symbol_same h k other)) grows))
+  not_refused_as Name.Twice number column h = h
+  not_refused_as Name.NoName number column h = h
+
+  pub not_refused : (r : ToolRefusal) → Refuses words r → ⊥
+  not_refused r h = not_refused_as r.name r.word r.column h

@@ -1,0 +1,3 @@
+pub mod CurieTexts
+pub mod CurieWords
+pub mod Stops

@@ -1,0 +1,11 @@
+pub mod Past
+pub mod TableRows
+pub mod Pieces
+pub mod FirstNames
+pub mod Patterns
+pub mod Plain
+pub mod Elements
+pub mod SameForms
+pub mod OneSymbol
+pub mod OneReading
+pub mod OneLongText

@@ -1,0 +1,4 @@
+pub mod MatrixAction
+pub mod Spins
+pub mod Turns
+pub mod Groups
