@@ -1,0 +1,6 @@
+pub mod Requests
+pub mod Outcomes
+pub mod Summary
+pub mod Runs
+pub mod Told
+pub mod Laws
