@@ -7,12 +7,16 @@ Use: bench/cross_check.py, after ./tensors was built. It reads the elements of t
 - for one in seven of the tables up to rank 3: whether a choice of numbers for the free components gives a tensor that every
   element leaves unchanged;
 - for each two of the types and of 20 symbols in other settings: the element that isn't in the first group, or the states
-  as left cosets and the pair classes as double cosets, by trying all elements; the group of each name.
+  as left cosets and the pair classes as double cosets, by trying all elements; the group of each name;
+- for the Voigt tables of the six symbols that have one, with two choices of marks and both letters, under the types: the
+  free entries, and each entry at each basis tensor, from the invariant tensors as the range of the mean over all
+  elements. Where the program doesn't answer `voigt` yet it says so.
+- for one in eleven of the pairs of a type and a subgroup: the components that tell the states apart with their values, from
+  the table of the subgroup and the matrix of each state.
 It ends with status 1 where an answer differs.
 """
 import math
 import pathlib
-import re
 import subprocess
 import sys
 
@@ -30,9 +34,8 @@ def answers(lines):
 
 
 def types():
-    """The 122 types, as the tests list them."""
-    text = (TOP / "crates" / "tensor_cli" / "src" / "tests.rt").read_text()
-    return re.findall(r'^    \("([^"]+)", "\d+", (?:true|false), (?:true|false)\),$', text, re.M)
+    """The 122 types."""
+    return (TOP / "evidence" / "types.txt").read_text().split()
 
 
 def number(text):
@@ -267,6 +270,198 @@ def transitions(groups):
     return len(pairs), subgroups, wrong
 
 
+VOIGT = {"[V2]": (2,), "V[V2]": (1, 2), "[V2]V": (2, 1), "[V2][V2]": (2, 2), "[V2]2": (2, 2), "[[V2]2]": (2, 2)}
+PAIRS = [(0, 0), (1, 1), (2, 2), (1, 2), (0, 2), (0, 1)]
+
+
+def entry_matrix(m, blocks):
+    """What an operation does to entries, each a component: entries by entries."""
+    parts = []
+    for block in blocks:
+        if block == 1:
+            parts.append(m)
+        else:
+            parts.append(
+                [[m[i][k] * m[j][l] + (m[i][l] * m[j][k] if k != l else 0) for k, l in PAIRS] for i, j in PAIRS]
+            )
+    whole = [[1.0]]
+    for part in parts:
+        whole = [[x * y for x in row for y in other] for row in whole for other in part]
+    return whole
+
+
+def mean_of_elements(group, word, marks):
+    """The mean over a group of what its elements do to entries, and for [[V2]2] over both orders of the two pairs."""
+    blocks = VOIGT[word]
+    size = math.prod(3 if block == 1 else 6 for block in blocks)
+    total = [[0.0] * size for _ in range(size)]
+    for element in group:
+        m = matrix(element)
+        sign = (determinant(m) if "e" in marks else 1) * (-1 if "a" in marks and element[1] else 1)
+        for into, row_of in zip(total, entry_matrix(m, blocks)):
+            for place, value in enumerate(row_of):
+                into[place] += sign * value / len(group)
+    if word == "[[V2]2]":
+        turned = [6 * (place % 6) + place // 6 for place in range(36)]
+        total = [[(row_of[place] + row_of[turned[place]]) / 2 for place in range(36)] for row_of in total]
+        total = [[(a + b) / 2 for a, b in zip(total[place], total[turned[place]])] for place in range(36)]
+    return total
+
+
+def columns_reduced(space):
+    """A basis of the range: each vector is 1 at its first entry, where the others are 0. So first entries are the free ones."""
+    basis, rest = [], [list(column) for column in zip(*space)]
+    for place in range(len(space)):
+        best = max(rest, key=lambda v: abs(v[place]), default=None)
+        if best is None or abs(best[place]) < 1e-9:
+            continue
+        rest.remove(best)
+        best = [x / best[place] for x in best]
+        rest = [[x - v[place] * y for x, y in zip(v, best)] for v in rest]
+        basis = [(p, [x - v[place] * y for x, y in zip(v, best)]) for p, v in basis] + [(place, best)]
+    return basis
+
+
+def voigt_lines(basis, word, letter):
+    """The names of the entries, those that are free, and for each entry its factors, weighted."""
+    blocks = VOIGT[word]
+    sizes = [3 if block == 1 else 6 for block in blocks]
+    every = [()]
+    for size in sizes:
+        every = [numbers + (n,) for numbers in every for n in range(1, size + 1)]
+    weight = [2 ** sum(n > 3 for n in numbers) if letter == "s" else 1 for numbers in every]
+    names = [letter + "".join(map(str, numbers)) for numbers in every]
+    factors = {
+        names[place]: {names[free]: weight[place] * v[place] / weight[free] for free, v in basis if abs(v[place]) > 1e-9}
+        for place in range(len(every))
+    }
+    return names, [names[free] for free, _ in basis], factors
+
+
+def voigt_row(text):
+    """The factors of a sum by names."""
+    found = {}
+    for term in text.replace("-", "+-").split("+"):
+        factor, name = re.fullmatch(r"(-?[0-9/]*\*?)([cs]\d+)", term).groups() if term not in ("", "0") else ("", "")
+        if name:
+            found[name] = fraction({"": "1", "-": "-1"}.get(factor, factor.rstrip("*")))
+    return found
+
+
+def same_voigt(lines, expected_table):
+    """Whether the lines of a table are those that were counted."""
+    names, free, factors = expected_table
+    if [line.split()[0] for line in lines] != names or [line.split()[0] for line in lines if line.endswith(" free")] != free:
+        return False
+    for line in lines:
+        name, _, rest = line.partition(" ")
+        found = {name: 1.0} if rest == "free" else voigt_row(rest.removeprefix("= "))
+        if set(found) != set(factors[name]) or any(abs(found[f] - factors[name][f]) > 1e-9 for f in found):
+            return False
+    return True
+
+
+def voigt_tables(groups):
+    """The Voigt tables that are others than counted apart; none where the program doesn't answer them."""
+    if answers(["voigt 1 [V2] c"])[0].startswith("error"):
+        return 0, []
+    requests = [
+        (symbol, marks, word, letter)
+        for symbol in groups
+        for word in VOIGT
+        for marks in ("", "ae")
+        for letter in "cs"
+    ]
+    written, wrong = iter(answers([f"voigt {s} {marks}{word} {letter}" for s, marks, word, letter in requests])), []
+    for symbol, marks, word, letter in requests:
+        if letter == "c":
+            basis = columns_reduced(mean_of_elements(groups[symbol], word, marks))
+        table = voigt_lines(basis, word, letter)
+        right = next(written) == f"voigt {symbol} {marks}{word} {letter} free {len(table[1])}"
+        right &= same_voigt([next(written) for _ in table[0]], table)
+        if not right:
+            wrong.append(f"{symbol} {marks}{word} {letter}")
+    return len(requests), wrong
+def coefficient(m, index, other):
+    value = 1.0
+    for one, two in zip(index, other):
+        value *= m[int(one) - 1][int(two) - 1]
+    return value
+
+
+def sums(lines):
+    """The free components of a table, and each component as factors of them."""
+    free = [line.split()[0] for line in lines if line.endswith(" free")]
+    found = {}
+    for line in lines:
+        name, _, rest = line.partition(" ")
+        units = [{other: float(other == place) for other in free} for place in free]
+        found[name[1:]] = [1.0 if name == place else row(rest.removeprefix("= "), unit) if rest != "free" else 0.0
+                           for place, unit in zip(free, units)]
+    return free, found
+
+
+def root_row(text, free):
+    """The factors a + b√3 of a sum of free components."""
+    factors = [0.0] * len(free)
+    if text == "0":
+        return factors
+    for factor, name in re.findall(r"((?:-|\+)?(?:\([^)]*\)\*|[0-9/r*]+\*)?-?)(T[0-9]*)", text):
+        sign = -1.0 if factor.startswith("-") and "(" in factor else 1.0
+        bare = factor.lstrip("+").rstrip("*")
+        if "(" in bare:
+            value = sign * number(bare.lstrip("-").strip("()"))
+        else:
+            value = number({"": "1", "-": "-1"}.get(bare, bare))
+        factors[free.index(name)] += value
+    return factors
+
+
+def told_apart(first, second, jahn, groups, table, written):
+    """Whether the answer to a request for distinguishing components is the one found here."""
+    whole, sub = groups[first], groups[second]
+    least, _ = classes(whole, sub)
+    free, found = sums(table)
+    rank = len(next(iter(found)))
+    names = " ".join(free) or "none"
+    if next(written) != f"differ {first} {second} {jahn} states {len(least)} free {names}":
+        return False
+    for place, state in enumerate(least[1:], 2):
+        m = matrix(state)
+        sign = (determinant(m) if "e" in jahn else 1) * (-1 if "a" in jahn and state[1] else 1)
+        rows = {}
+        for index in found:
+            value = [0.0] * len(free)
+            for other, factors in found.items():
+                share = sign * coefficient(m, index, other)
+                if share:
+                    value = [before + share * factor for before, factor in zip(value, factors)]
+            if any(abs(one - two) > 1e-9 for one, two in zip(value, found[index])):
+                rows[index] = value
+        if next(written) != f"state {place} differs {len(rows)} of {3 ** rank}":
+            return False
+        for index, value in rows.items():
+            name, _, text = next(written).partition(" = ")
+            if name != "T" + index or any(abs(one - two) > 1e-9 for one, two in zip(root_row(text, free), value)):
+                return False
+    return True
+
+
+def distinctions(groups):
+    """The requests for distinguishing components that are answered otherwise than found here."""
+    words = ("V", "eV", "aeV", "[V2]", "a{V2}", "V2", "eV[V2]", "V3")
+    pairs = [(first, second) for first in groups for second in groups if set(groups[second]) <= set(groups[first])]
+    asked = [(first, second, words[place % len(words)]) for place, (first, second) in enumerate(pairs[::11])]
+    tables, wrong = iter(answers([f"form {second} {jahn}" for _, second, jahn in asked])), []
+    for first, second, jahn in asked:
+        count = int(next(tables).split()[-1])
+        table = [next(tables) for _ in range(count)]
+        written = iter(answers([f"differ {first} {second} {jahn}"]))
+        if not told_apart(first, second, jahn, groups, table, written) or next(written) != "":
+            wrong.append(f"differ {first} {second} {jahn}")
+    return len(asked), wrong
+
+
 def main():
     named = {symbol: elements(symbol) for symbol in types()}
     assert len(named) == 122 and all(group == sorted(group) for group in named.values())
@@ -274,10 +469,15 @@ def main():
     print(f"{tables} tables, {len(wrong_tables)} with another number of free components", *wrong_tables[:5])
     looked, changed = invariance(named)
     print(f"{looked} tables, {len(changed)} with a tensor that an element changes", *changed[:5])
+    voigts, wrong_voigts = voigt_tables(named)
+    print(f"{voigts} Voigt tables, {len(wrong_voigts)} counted otherwise", *wrong_voigts[:5])
     named.update({symbol: elements(symbol) for symbol in SETTINGS})
     pairs, subgroups, wrong_pairs = transitions(named)
     print(f"{pairs} pairs of groups, {subgroups} with a subgroup, {len(wrong_pairs)} answered otherwise", *wrong_pairs[:5])
-    return 1 if wrong_tables or changed or wrong_pairs else 0
+    return 1 if wrong_tables or changed or wrong_voigts or wrong_pairs else 0
+    asked, wrong_rows = distinctions(named)
+    print(f"{asked} requests for distinguishing components, {len(wrong_rows)} answered otherwise", *wrong_rows[:5])
+    return 1 if wrong_tables or changed or wrong_pairs or wrong_rows else 0
 
 
 if __name__ == "__main__":
