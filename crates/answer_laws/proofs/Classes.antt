@@ -4,13 +4,14 @@
 --   same_class          a class is told by its least state
 --   one_class_list      the classes are told by the two groups and the states
 --   one_pairs_lem       a request for pair classes has one answer, where the second group is below the first
-use Rattle.std.proofs.Common.{◌≡◌, ℕ, zero, suc, ◌-◌, ◌<◌, ◌≤◌, Bool, true, false, List, [], ◌∷◌, ◌++◌, length, refl}
+use Rattle.std.proofs.Common.{◌≡◌, ℕ, ◌-◌, ◌<◌, ◌≤◌, true, List, [], ◌∷◌, ◌++◌, length, refl}
 use Rattle.std.proofs.Common.{ap, sym, ◌∙◌, arith, inl, inr, subst}
-use Rattle.std.specs.Prelude.{Option, Some, None, Contains, IsTrue, nat_lt, get_or, slice_get, ◌↔◌}
+use Rattle.std.specs.Prelude.{Option, Some, None, Contains, IsTrue, nat_lt, get_or, ◌↔◌}
 use Rattle.std.proofs.lemmas.Bool.Decides.{nat_tests}
-use Rattle.list_laws.proofs.Lists.{held_here, held_cases}
-use Rattle.list_laws.proofs.Members.{each_held}
+use Rattle.list_laws.proofs.Lists.{held_here, held_cases, heads, tails}
+use Rattle.list_laws.proofs.Members.{each_held, each_found}
 use Rattle.list_laws.proofs.Rising.{rising_same}
+use Rattle.list_laws.proofs.Tests.{same_truth}
 use Rattle.tensor_defs.specs.Group.{InGroup, IsBelow}
 use Rattle.tensor_defs.specs.Lists.{Each, IsRising, IsListing}
 use Rattle.tensor_defs.specs.Names.{IsNamed, IsNameOf}
@@ -20,6 +21,7 @@ use Rattle.tensor_defs.specs.PairClasses.{PairClass, IsPairClass, least_before, 
 use Rattle.tensor_defs.specs.States.{InDouble, IsState, IsSwappable, InPairGroup, InTwinningGroup}
 use Rattle.tensor_defs.specs.Symbols.{GroupSymbol}
 use Rattle.tensor_laws.proofs.Associativity.{product_assoc, product_assoc_back}
+use Rattle.tensor_laws.proofs.States.{one_state, state_at}
 use Rattle.text_defs.specs.AnswerTexts.{pairs_text}
 use Rattle.answer_laws.proofs.DomainStates.{one_state_list}
 use Rattle.answer_laws.proofs.Groups.{IsGroup, one_times, times_one, symbol_group}
@@ -27,11 +29,6 @@ use Rattle.answer_laws.proofs.Listings.{operations_listed}
 use Rattle.answer_laws.specs.Laws.{OnePairs}
 
 -- ---- names
-heads : {x y : GroupSymbol} {xs ys : List GroupSymbol} → x ∷ xs ≡ y ∷ ys → x ≡ y
-heads e = cc
-
-tails : {x y : GroupSymbol} {xs ys : List GroupSymbol} → x ∷ xs ≡ y ∷ ys → xs ≡ ys
-tails e = cc
 
 -- the first of a list with a property is one
 first_named : (P : GroupSymbol → Type 0) (xs ys us vs : List GroupSymbol) (x y : GroupSymbol) → Each (λ u. ¬ P u) xs →
@@ -56,25 +53,6 @@ one_name H (Some t) (Some u) a b =
     ap Some (first_named (λ u. IsNamed u H) a.0 b.0 a.1 b.1 t u a.4 b.4 a.3 b.3 (sym a.2 ∙ b.2))
 
 -- ---- places of states
-some_same : (x y : Operation) → Some x ≡ Some y → x ≡ y
-some_same x y e = cc
-
-one_state : (rs : List Operation) (k : ℕ) (g h : Operation) → IsState rs k g → IsState rs k h → g ≡ h
-one_state rs k g h p q = some_same g h (sym p.1 ∙ q.1)
-
-at_place : (rs : List Operation) (k : ℕ) → k < length rs → (g : Operation) × (slice_get rs k ≡ Some g)
-at_place [] k h = absurd (omega arith)
-at_place (r ∷ rs) zero h = (r, refl)
-at_place (r ∷ rs) (suc k) h = at_place rs k (omega arith)
-
-state_at : (rs : List Operation) (k : ℕ) → 1 ≤ k → k ≤ length rs → (g : Operation) × IsState rs k g
-state_at rs k p q = let found = at_place rs (k - 1) (omega arith) in (found.0, (p, found.1))
-
-at_held : (rs : List Operation) (P : Operation → Type 0) → Each P rs → (k : ℕ) (g : Operation) →
-    slice_get rs k ≡ Some g → P g
-at_held [] P e k g is = absurd cc
-at_held (r ∷ rs) P e zero g is = subst P (some_same r g is) e.0
-at_held (r ∷ rs) P e (suc k) g is = at_held rs P e.1 k g is
 
 -- ---- numbers in order
 less_irreflexive : (n : ℕ) → ¬ IsTrue (nat_lt n n)
@@ -96,11 +74,6 @@ least_first l k others members e r c =
           let lt : l < k = less_means l k (each_held (λ n. IsTrue (nat_lt l n)) others rising.0 k d) in omega arith
     ]
 
-same_bool : (b c : Bool) → (b ≡ true → c ≡ true) → (c ≡ true → b ≡ true) → b ≡ c
-same_bool true c f g = sym (f refl)
-same_bool false true f g = g refl
-same_bool false false f g = refl
-
 -- ---- classes
 module _ (G F : Operation → Type 0) (whole : IsGroup G) (group : IsGroup F) (below : IsBelow F G)
     (reps : List Operation) (within : Each G reps) where
@@ -115,7 +88,7 @@ module _ (G F : Operation → Type 0) (whole : IsGroup G) (group : IsGroup F) (b
       (f.0, n.0, f.1, (s.0, s.1, n.2), product_assoc f.0 k s.0 h.1 g n.0 ahead back n.2)
 
   state_in : (k : ℕ) (g : Operation) → IsState reps k g → G g
-  state_in k g h = at_held reps G within (k - 1) g h.1
+  state_in k g h = each_found G reps within (k - 1) g h.1
 
   -- the members of a class are members of the other, where both have one representative
   members_within : (c d : PairClass) (p : IsPairClass G F reps c) (q : IsPairClass G F reps d) → p.rep ≡ q.rep →
@@ -134,7 +107,7 @@ module _ (G F : Operation → Type 0) (whole : IsGroup G) (group : IsGroup F) (b
       p.rising q.rising (members_within c d p q rep) (members_within d c q p (sym rep)) in
       let swaps : (c.swappable ≡ true) ↔ IsSwappable G F q.rep = subst (λ r. (c.swappable ≡ true) ↔ IsSwappable G F r) rep
       p.swaps in
-      let swappable : c.swappable ≡ d.swappable = same_bool c.swappable d.swappable (λ t. q.swaps.1 (swaps.0 t))
+      let swappable : c.swappable ≡ d.swappable = same_truth c.swappable d.swappable (λ t. q.swaps.1 (swaps.0 t))
       (λ t. swaps.1 (q.swaps.0 t)) in
       let pair : c.pair_group ≡ d.pair_group = operations_listed (InPairGroup F q.rep) c.pair_group d.pair_group
       (subst (λ r. IsListing comes_before (InPairGroup F r) c.pair_group) rep p.pair) q.pair in

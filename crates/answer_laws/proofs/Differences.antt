@@ -3,7 +3,7 @@
 --   row_terms_same      a row has its terms in one way
 --   state_texts_same    the texts of states are told by the states and the table
 --   one_differ_lem      a request for distinguishing components has one answer
-use Rattle.std.proofs.Common.{◌≡◌, ℕ, ◌+◌, ◌<◌, ◌^◌, List, [], ◌∷◌, ◌++◌, length, drop, refl, ap, sym, ◌∙◌, arith, subst}
+use Rattle.std.proofs.Common.{◌≡◌, ℕ, ◌+◌, ◌<◌, ◌^◌, List, [], ◌∷◌, ◌++◌, length, drop, ap, sym, ◌∙◌, arith, subst}
 use Rattle.std.specs.Prelude.{◌≢◌, true, map, codes, IsTrue, Contains, nat_lt}
 use Rattle.std.specs.List.{flat_map}
 use Rattle.std.specs.Fmt.{decimal}
@@ -13,16 +13,17 @@ use Rattle.list_laws.proofs.Rising.{rising_same, listing_same}
 use Rattle.tensor_defs.specs.Group.{InGroup}
 use Rattle.tensor_defs.specs.Jahn.{JahnSymbol, rank}
 use Rattle.tensor_defs.specs.Lists.{Each}
-use Rattle.tensor_defs.specs.Number.{Number, add, mul, num_zero, IsRoot3}
+use Rattle.tensor_defs.specs.Number.{mul, num_zero, IsRoot3}
 use Rattle.tensor_defs.specs.Operation.{Operation}
 use Rattle.tensor_defs.specs.Orders.{index_before}
-use Rattle.tensor_defs.specs.StateRows.{factor_at, state_part, sum_of, state_row, RootTerm, root_places_rise, IsStateRow}
+use Rattle.tensor_defs.specs.StateRows.{factor_at, state_part, state_row, RootTerm, root_places_rise, IsStateRow}
 use Rattle.tensor_defs.specs.StateRows.{Distinguishes}
 use Rattle.tensor_defs.specs.Symbols.{GroupSymbol, IsGroupSymbol}
 use Rattle.tensor_defs.specs.Table.{Table}
 use Rattle.tensor_defs.specs.Tensor.{Index, Marks, indices, sign, coefficient}
 use Rattle.tensor_laws.proofs.IndexOrder.{index_order}
 use Rattle.tensor_laws.proofs.Unique.{same_free, same_terms}
+use Rattle.tensor_laws.proofs.Agreeing.{sum_of-same}
 use Rattle.text_defs.specs.AnswerTexts.{line_of, equation, component_name, named_roots, state_text}
 use Rattle.text_defs.specs.AnswerTexts.{or_none}
 use Rattle.text_defs.specs.GroupTexts.{group_text}
@@ -35,9 +36,6 @@ use Rattle.answer_laws.proofs.Roots.{one_root}
 use Rattle.answer_laws.specs.Laws.{OneDiffer}
 
 -- ---- rows
-sum_same : (f g : Index → Number) (js : List Index) → Each (λ j. f j ≡ g j) js → sum_of f js ≡ sum_of g js
-sum_same f g [] e = refl
-sum_same f g (j ∷ js) e = λ i. add (e.0 i) (sum_same f g js e.1 i)
 
 place_irreflexive : (t : RootTerm) → ¬ IsTrue (root_places_rise t t)
 place_irreflexive t h = below t.place h
@@ -56,7 +54,7 @@ module _ (m : Marks) (g : Operation) (a b : Table) (r : ℕ) (free : a.free ≡ 
     length c ≡ r → a.terms c ≡ b.terms c) where
   state_row_same : (i : Index) (k : ℕ) → state_row m g a r i k ≡ state_row m g b r i k
   state_row_same i k =
-      sum_same (state_part m g a i k) (state_part m g b i k) (indices r)
+      sum_of-same (state_part m g a i k) (state_part m g b i k) (indices r)
       (each_map (λ c. length c ≡ r) (λ c. state_part m g a i k c ≡ state_part m g b i k c)
       (λ c n. ap (λ ts. mul (mul (sign m g) (coefficient g i c)) (factor_at ts k)) (terms c n)) (indices r)
       (indices_of_rank r))

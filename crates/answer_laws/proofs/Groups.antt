@@ -7,8 +7,6 @@ use Rattle.std.proofs.Common.{◌≡◌, ℕ, zero, suc, ◌==◌, ◌%◌, ◌/
 use Rattle.std.proofs.Common.{refl, sym, ◌∙◌, arith, subst, inl, inr, lit<, lit≤}
 use Rattle.std.specs.Prelude.{Option, Some, None, Contains}
 use Rattle.std.proofs.lemmas.Bool.{cases_lt}
-use mathlib.Core.Bool.{xor}
-use lib.IntN.{pos}
 use Rattle.list_laws.proofs.Tests.{xor_plain, plain_xor}
 use Rattle.list_laws.proofs.Members.{each_held, each_append}
 use Rattle.number_laws.proofs.NumberLaws.{num_add-zero, num_zero-add, num_one-mul, num_mul-one, num_zero-mul, num_mul-zero}
@@ -16,23 +14,17 @@ use Rattle.tensor_defs.specs.declared.Setting.{Setting}
 use Rattle.tensor_defs.specs.declared.Setting.TheVariants as setting
 use Rattle.tensor_defs.specs.Group.{InGroup, IsProductOf, Generated}
 use Rattle.tensor_defs.specs.Lists.{Each}
-use Rattle.tensor_defs.specs.Number.{Number, add, mul, half_of, num_zero, num_one, whole, same_numbers}
+use Rattle.tensor_defs.specs.Number.{Number, add, mul, num_zero, num_one, whole}
 use Rattle.tensor_defs.specs.Operation.{Axis, x1, x2, x3, Operation, value, sum_axes, IsProduct, identity, reversal}
 use Rattle.tensor_defs.specs.Symbols.{operation_of, turned_to, takes_setting, Operator, parent_operators, operations_of}
 use Rattle.tensor_defs.specs.Symbols.{listed, generators, GroupSymbol, IsGroupSymbol}
 use Rattle.tensor_laws.proofs.Associativity.{product_assoc, product_assoc_back}
 use Rattle.tensor_laws.proofs.Products.{both, product_unique, generated_within}
+use Rattle.tensor_laws.proofs.ActionLaws.{half_of_two, half_of_none}
 use Rattle.text_defs.specs.GroupTexts.{SpellsGroup, grey_one}
 use Rattle.answer_laws.proofs.Matrices.{is_in, turns, InFrame, IsTurn, one_in_frame, turn_times, power_back}
 
 -- ---- the identity and associativity
-entry_one : half_of (pos 2) (pos 0) ≡ num_one
-unfolding half_of whole
-entry_one = same_numbers _ _ (record { same_p = refl; same_q = refl })
-
-entry_zero : half_of (pos 0) (pos 0) ≡ num_zero
-unfolding half_of whole
-entry_zero = same_numbers _ _ (record { same_p = refl; same_q = refl })
 
 first_kept : (x y z : Number) → x ≡ add (mul num_one x) (add (mul num_zero y) (mul num_zero z))
 first_kept x y z = sym (simp (num_zero-mul, num_one-mul, num_add-zero, num_zero-add))
@@ -54,33 +46,33 @@ third_taken x y z = sym (simp (num_mul-zero, num_mul-one, num_add-zero, num_zero
 
 on_diagonal : (i : Axis) → value identity i i ≡ num_one
 unfolding value
-on_diagonal x1 = entry_one
-on_diagonal x2 = entry_one
-on_diagonal x3 = entry_one
+on_diagonal x1 = half_of_two
+on_diagonal x2 = half_of_two
+on_diagonal x3 = half_of_two
 
 value_12 : value identity x1 x2 ≡ num_zero
 unfolding value
-value_12 = entry_zero
+value_12 = half_of_none
 
 value_13 : value identity x1 x3 ≡ num_zero
 unfolding value
-value_13 = entry_zero
+value_13 = half_of_none
 
 value_21 : value identity x2 x1 ≡ num_zero
 unfolding value
-value_21 = entry_zero
+value_21 = half_of_none
 
 value_23 : value identity x2 x3 ≡ num_zero
 unfolding value
-value_23 = entry_zero
+value_23 = half_of_none
 
 value_31 : value identity x3 x1 ≡ num_zero
 unfolding value
-value_31 = entry_zero
+value_31 = half_of_none
 
 value_32 : value identity x3 x2 ≡ num_zero
 unfolding value
-value_32 = entry_zero
+value_32 = half_of_none
 
 pub one_times : (g : Operation) → IsProduct identity g g
 one_times g = record { entries = entries; marks = plain_xor g.primed }

@@ -3,14 +3,14 @@
 use Rattle.std.proofs.Common.{◌≡◌, ℕ, true, false, Bool, List, [], ◌∷◌, length, get_or, refl, ap, sym, ◌∙◌, inl, inr}
 use Rattle.std.specs.Prelude.{◌↔◌, Some, None, Contains, filter}
 use Rattle.tensor_laws.proofs.ThreeFold.{three_determinant}
-use Rattle.number_laws.proofs.NumberLaws.{num_mul-one, num_mul-zero, num_one-mul}
+use Rattle.number_laws.proofs.NumberLaws.{num_mul-one, num_mul-zero, num_one-mul, num_minus_one-mul}
 use Rattle.sign_moves.proofs.SignLaws.{own_negative}
 use Rattle.sparse_rows.specs.Solutions.{dot, Solve}
 use Rattle.tensor_defs.specs.Elimination.{Carrier, IsDropped, AreRepresentatives, AreUnknowns, carried, rows_of}
 use Rattle.tensor_defs.specs.Frames.{AllOf, IsDiagonal, IsFramed, IsHexagonal}
 use Rattle.tensor_defs.specs.Jahn.{JahnSymbol, IsInvariant, rank}
 use Rattle.tensor_defs.specs.Lists.{Each}
-use Rattle.tensor_defs.specs.Number.{Number, add, mul, num_zero, num_one}
+use Rattle.tensor_defs.specs.Number.{Number, mul, num_zero, num_one}
 use Rattle.tensor_defs.specs.Operation.{Operation, IsProduct}
 use Rattle.tensor_defs.specs.Orders.{IsOrder}
 use Rattle.tensor_defs.specs.Tensor.{Index, Tensor, Marks, Agree, act, axial_sign, coefficient, sign, sum_indices, time_sign}
@@ -21,7 +21,7 @@ use Rattle.tensor_laws.proofs.WordRows.{rows_decide_lem}
 use Rattle.tensor_laws.specs.Laws.{three_z, row_sum}
 use Rattle.axis_laws.proofs.Carrying.{carried_sum}
 use Rattle.axis_laws.proofs.Diagonals.{diagonal_acts, coefficient_sign, sign_is_sign}
-use Rattle.axis_laws.proofs.Signs.{sign_mul, minus_mul}
+use Rattle.axis_laws.proofs.Signs.{sign_mul}
 use Rattle.axis_laws.proofs.Symmetry.{unknown_of, symmetric_told}
 use Rattle.axis_laws.proofs.Turns.{hexagonal_kept}
 use Rattle.axis_laws.proofs.UsedWords.{BothVanish, used_of, used_length, used_told}
@@ -74,7 +74,7 @@ module _ (j : JahnSymbol) (H : Operation → Type 0) (before : Index → Index �
   dropped_zero v c n (inl z) = z t v.symmetric
   dropped_zero v c n (inr (g, m, d, e)) =
       own_negative (t c) (sym (v.unchanged g m c n) ∙ diagonal_acts g d j.marks t c ∙ ap (λ x. mul x (t c)) e
-      ∙ minus_mul (t c))
+      ∙ num_minus_one-mul (t c))
 
   -- an invariant list does
   pub none_told : IsInvariant j H t → (c : Index) → length c ≡ rank j → rep c ≡ None → t c ≡ num_zero

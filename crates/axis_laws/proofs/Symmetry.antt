@@ -8,7 +8,7 @@ use Rattle.std.specs.Prelude.{Some, None, cond}
 use Rattle.std.proofs.lemmas.Option.{none-some}
 use Rattle.list_laws.proofs.Lists.{option_cases}
 use Rattle.list_laws.proofs.Members.{each_map}
-use Rattle.number_laws.proofs.NumberLaws.{num_mul_assoc, num_mul-zero, num_one-mul, num_mul_left_comm, num_mul_comm}
+use Rattle.number_laws.proofs.NumberLaws.{num_mul_assoc, num_mul-zero, num_one-mul, num_mul_left_comm, num_mul_comm, num_minus_one-mul}
 use Rattle.sign_moves.proofs.SignLaws.{own_negative}
 use Rattle.tensor_defs.specs.Elimination.{Carrier, IsSign, IsTied, AreRepresentatives}
 use Rattle.tensor_defs.specs.Frames.{IsDiagonal}
@@ -20,7 +20,7 @@ use Rattle.tensor_defs.specs.Orders.{IsOrder}
 use Rattle.tensor_defs.specs.Tensor.{Index, Tensor, coefficient}
 use Rattle.axis_laws.proofs.Diagonals.{coefficient_sign}
 use Rattle.axis_laws.proofs.Links.{IsForced, AreLinked, tied_back, moved, carriers_linked}
-use Rattle.axis_laws.proofs.Signs.{minus_mul, sign_square, same_or_negative}
+use Rattle.axis_laws.proofs.Signs.{sign_square, same_or_negative}
 
 -- ---- the factor of an index list is that of its exchange
 factor_append : (g : Operation) (a b : Index) →
@@ -66,7 +66,7 @@ sign_of-is true = inr refl
 sign_of-is false = inl refl
 
 sign_of-mul : (n : Bool) (x : Number) → mul (sign_of n) x ≡ cond n (neg x) x
-sign_of-mul true x = minus_mul x
+sign_of-mul true x = num_minus_one-mul x
 sign_of-mul false x = num_one-mul x
 
 -- each symmetric list respects the bracket

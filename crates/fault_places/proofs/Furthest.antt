@@ -12,6 +12,16 @@ pub record Furthest (Text : List ℕ → Type 0) (Alternative : ℕ → List ℕ
   pub none : (k : ℕ) → k < count → ¬ Alternative k word
   pub longest : (k : ℕ) → k < count → (n : ℕ) → n ≤ length word → place < n → ¬ Begins (Alternative k) (take n word)
 
+-- before the first alternative, where there is a text at all
+pub Furthest-start : (Text : List ℕ → Type 0) (Alternative : ℕ → List ℕ → Type 0) (word : List ℕ) →
+    ((z : List ℕ) × Text z) → Furthest Text Alternative 0 word 0
+Furthest-start Text Alternative word some = record {
+  within = omega arith;
+  begins = some;
+  none = λ k lt. absurd (omega arith);
+  longest = λ k lt. absurd (omega arith);
+}
+
 module _ (Text : List ℕ → Type 0) (Alternative : ℕ → List ℕ → Type 0) (count : ℕ) (word : List ℕ) (place : ℕ) (h : Furthest Text Alternative count word place) where
   pub Furthest-skip : ((z : List ℕ) → ¬ Alternative count z) → Furthest Text Alternative (count + 1) word place
   Furthest-skip empty = record {

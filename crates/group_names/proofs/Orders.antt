@@ -9,7 +9,7 @@ use Rattle.std.proofs.Common.{[], ◌≡◌, ℕ, zero, suc, ◌+◌, ◌*◌, �
 use Rattle.std.specs.Prelude.{Contains, IsTrue, ◌↔◌, nat_eq, nat_le, nat_lt, get_or, map}
 use Rattle.std.proofs.lemmas.Bool.Decides.{nat_tests}
 use Rattle.std.proofs.lemmas.List.Elements.{Contains-append_cases}
-use Rattle.std.proofs.lemmas.Bool.{eqb-true, cases_lt, false≢true}
+use Rattle.std.proofs.lemmas.Bool.{eqb-true, cases_lt, false≢true, leb-true}
 use Rattle.list_laws.proofs.Members.{each_from}
 use Rattle.list_laws.proofs.Below.{all_below, below_told}
 use Rattle.list_laws.proofs.Tests.{implied, both}
@@ -150,16 +150,13 @@ record Fits (s : Setting) (n : ℕ) (ls : List ℕ) : Type 0 where
   pub few : count 64 0 (is_in ls) ≤ order_of n
   pub twice : count 128 0 (half_in ls) ≤ 2 * order_of n
 
-le_told : (x y : ℕ) → nat_le x y ≡ true → x ≤ y
-le_told x y e = grind (arith, nat_tests)
-
 fits_by : (s : Setting) (n : ℕ) (ls : List ℕ) → order_fits s n ls ≡ true → Fits s n ls
 fits_by s n ls e =
     let a : (_ ≡ true) × (_ ≡ true) = both (is_in ls 0) _ e in
     let b : (_ ≡ true) × (_ ≡ true) = both (kept_by ls reversal) _ a.1 in
     let c : (_ ≡ true) × (_ ≡ true) = both (each_operator (kept_by ls) s (parent_operators n)) _ b.1 in
     let d : (_ ≡ true) × (_ ≡ true) = both (nat_le (count 64 0 (is_in ls)) (order_of n)) _ c.1 in
-    record { one = a.0; reversed = b.0; operators = c.0; few = le_told _ _ d.0; twice = le_told _ _ d.1 }
+    record { one = a.0; reversed = b.0; operators = c.0; few = leb-true _ _ d.0; twice = leb-true _ _ d.1 }
 
 fits_at : (s : Setting) (n : ℕ) → n ≤ 42 → takes_setting n s ≡ true → Fits s n (matrices_of n s)
 fits_at s n h t = fits_by s n (matrices_of n s) (implied (takes_setting n s) _ (below_told 43 (order_test s) (orders_all s) n (omega arith)) t)

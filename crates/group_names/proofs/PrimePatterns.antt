@@ -1,15 +1,8 @@
 -- Patterns of primes: numbers with their binary digits in the other order.
-use Rattle.std.proofs.Common.{◌≡◌, ℕ, zero, suc, ◌+◌, ◌*◌, ◌%◌, ◌/◌, ◌^◌, ◌<◌, ◌≤◌, ap, sym, ◌∙◌, arith, subst, add-one}
+use Rattle.std.proofs.Common.{◌≡◌, ℕ, suc, ◌+◌, ◌*◌, ◌%◌, ◌/◌, ◌^◌, ◌<◌, ◌≤◌, ap, sym, ◌∙◌, arith, subst, add-one}
 use Rattle.std.proofs.Math.Nat.{pow-succ', add-mul, mul_assoc, mul_comm}
 use Rattle.tensor_defs.specs.Names.{turned_bits}
-
-pub power_small : (n : ℕ) → n ≤ 4 → 2 ^ n ≤ 16
-power_small zero h = omega arith
-power_small (suc zero) h = omega arith
-power_small (suc (suc zero)) h = omega arith
-power_small (suc (suc (suc zero))) h = omega arith
-power_small (suc (suc (suc (suc zero)))) h = omega arith
-power_small (suc (suc (suc (suc (suc n))))) h = absurd (omega arith)
+use Rattle.list_laws.proofs.Tests.{power_four}
 
 power_next : (n : ℕ) → 2 ^ suc n ≡ 2 * 2 ^ n
 power_next n = pow-succ' 2 n
@@ -40,7 +33,7 @@ pub turning_done : (count number digit turned rest : ℕ) → IsTurning count nu
 turning_done count number digit turned rest i e = let s = i.same 0 (omega arith) in omega (arith, s)
 
 pub turning_small : (count number digit turned rest : ℕ) → IsTurning count number digit turned rest → digit ≤ count → count ≤ 4 → turned < 16
-turning_small count number digit turned rest i h k = let b = i.below in let p = power_small digit (omega arith) in omega (arith, b, p)
+turning_small count number digit turned rest i h k = let b = i.below in let p = power_four digit (omega arith) in omega (arith, b, p)
 
 pub turning_below : (count number digit turned rest : ℕ) → IsTurning count number digit turned rest → digit ≡ count → turned < 2 ^ count
 turning_below count number digit turned rest i e = subst (λ n. turned < 2 ^ n) e i.below

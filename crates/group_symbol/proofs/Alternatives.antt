@@ -4,7 +4,7 @@ use Rattle.std.proofs.lemmas.Bool.{cases_lt}
 use Rattle.std.specs.Prelude.{codes}
 use Rattle.text_defs.specs.Languages.{IsFaulty}
 use Rattle.fault_places.proofs.Places.{same_faulty}
-use Rattle.fault_places.proofs.Furthest.{Furthest, Furthest-stay, Furthest-go, Furthest-all, single_faulty}
+use Rattle.fault_places.proofs.Furthest.{Furthest, Furthest-stay, Furthest-go, Furthest-all, single_faulty, Furthest-start}
 use Rattle.tensor_defs.specs.Symbols.{GroupSymbol}
 use Rattle.text_defs.specs.GroupTexts.{SpellsGroup, IsGroupText, grey_one}
 use Rattle.group_symbol.specs.Parts.{IsFullTextOf}
@@ -19,11 +19,8 @@ alternative_text : (k : ℕ) (z : List ℕ) → Alternative k z → IsGroupText 
 alternative_text k z (inl h) = (grey_one, inr (h.1, refl))
 alternative_text k z (inr h) = (h.0, inl h.2)
 
-nothing_tried : (word : List ℕ) → Tried word 0 0
-nothing_tried word = record { within = omega arith; begins = (codes "1'", (grey_one, inr (refl, refl))); none = λ k lt. absurd (omega arith); longest = λ k lt. absurd (omega arith) }
-
 pub first_tried : (word : List ℕ) (n : ℕ) → n ≤ 2 → n ≤ length word → take n (codes "1'") ≡ take n word → (n < 2 → n < length word → get_or (codes "1'") n 0 ≢ get_or word n 0) → (n ≡ 2 → length word ≡ 2 → ⊥) → Tried word 1 n
-first_tried word n in_text in_word same differ part = Furthest-go IsGroupText Alternative 0 word 0 (nothing_tried word) n (alternative_text 0) (same_faulty (λ z. z ≡ codes "1'") (Alternative 0) (λ z e. inl (refl, e)) (λ z a. elim a [ inl h ↦ h.1 | inr h ↦ absurd (no_zero h.0.parent h.1 h.2.symbol.first) ]) word n (single_faulty (codes "1'") word n in_text in_word same differ (λ a b. part a (omega arith)))) (omega arith)
+first_tried word n in_text in_word same differ part = Furthest-go IsGroupText Alternative 0 word 0 (Furthest-start IsGroupText Alternative word (codes "1'", (grey_one, inr (refl, refl)))) n (alternative_text 0) (same_faulty (λ z. z ≡ codes "1'") (Alternative 0) (λ z e. inl (refl, e)) (λ z a. elim a [ inl h ↦ h.1 | inr h ↦ absurd (no_zero h.0.parent h.1 h.2.symbol.first) ]) word n (single_faulty (codes "1'") word n in_text in_word same differ (λ a b. part a (omega arith)))) (omega arith)
   where
     no_zero : (k : ℕ) → k ≡ 0 → 1 ≤ k → ⊥
     no_zero k e h = omega arith

@@ -1,27 +1,17 @@
 -- The texts of signs with primes and a tail, taken apart into their primes and their tail.
---   spell    what with_primes writes of a sign
 --   Spelled    some primes below the limit, and a tail that they allow, make the word
 --   Taken, walk_taken    what a walk has read
 use Rattle.std.proofs.Common.{◌≡◌, ◌==◌, ℕ, ◌+◌, ◌*◌, ◌/◌, ◌%◌, ◌<◌, ◌^◌, Bool, true, false, cond, List, [], ◌∷◌, ◌++◌, drop, Result, Ok, Err, refl, sym, ap, subst, ◌∙◌, arith, inl, inr, eq-eqb, lit<}
 use Rattle.std.proofs.lemmas.Bool.Decides.{eqb_tells}
-use Rattle.list_laws.proofs.Tests.{next_number, double_power}
+use Rattle.list_laws.proofs.Tests.{next_number, double_power, same_power}
 use Rattle.text_defs.specs.GroupTexts.{ends_operator, operators_in, with_primes}
+use Rattle.text_laws.proofs.GroupUnique.{spell}
 use Rattle.group_symbol.specs.Walks.{lift, after_sign, walk}
 use Rattle.group_symbol.proofs.Bodies.{Tails, SignText, Body, two_more}
-
--- what with_primes writes of a sign
-abbrev pub spell : Bool → ℕ → (ℕ → List ℕ) → ℕ → List ℕ
-spell e s f p = cond e (cond (p % 2 == 1) (s ∷ 39 ∷ f (p / 2)) (s ∷ f (p / 2))) (s ∷ f p)
 
 -- Some primes below the limit, and a tail that they allow, make the word.
 abbrev pub Spelled : (ℕ → List ℕ) → ℕ → Tails → List ℕ → Type 0
 Spelled f limit Tail w = (p : ℕ) × (p < limit) × (r : List ℕ) × (w ≡ f p ++ r) × Tail p r
-
-pub same_power : (n : ℕ) → 2 ^ (0 + n) ≡ 2 ^ n
-same_power n = ap (λ (k : ℕ). 2 ^ k) (none_more n)
-  where
-    none_more : (n : ℕ) → 0 + n ≡ n
-    none_more n = omega arith
 
 odd_rest : (p : ℕ) → (1 + 2 * p) % 2 ≡ 1
 odd_rest p = omega arith

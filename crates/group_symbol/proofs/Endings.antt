@@ -1,27 +1,13 @@
 -- What stands behind the signs: the grey suffix and the suffix of a setting.
 --   not_grey    where the word doesn't begin as grey
-use Rattle.std.proofs.Common.{◌≡◌, ◌≢◌, ℕ, zero, suc, ◌+◌, ◌<◌, ◌≤◌, Bool, true, false, List, [], ◌∷◌, length, get_or, refl, ap, subst, ◌∙◌, arith}
+use Rattle.std.proofs.Common.{◌≡◌, ◌≢◌, ℕ, suc, ◌+◌, ◌<◌, ◌≤◌, Bool, true, false, List, [], ◌∷◌, length, get_or, refl, ap, subst, ◌∙◌, arith}
 use Rattle.text_defs.specs.Languages.{IsFaulty}
 use Rattle.fault_places.proofs.Places.{StopsAt, same_stop, same_stop_near, stops, faulty, Through}
-use Rattle.text_defs.specs.GroupTexts.{suffix_at, IsSuffix}
+use Rattle.text_defs.specs.GroupTexts.{IsSuffix}
 use Rattle.tensor_defs.specs.declared.Setting.{Setting}
+use Rattle.text_laws.proofs.GroupUnique.{suffix_first}
 use Rattle.group_symbol.specs.Parts.{IsSuffixText, IsEnding, IsEndingText}
 use Rattle.group_symbol.proofs.SuffixRows.{no_suffix_is_one}
-
--- A suffix is empty or begins with @.
-suffix_head : (k : ℕ) → k < 7 → (x : ℕ) (xs : List ℕ) → x ∷ xs ≡ (suffix_at k).text → x ≡ 64
-unfolding suffix_at
-suffix_head zero lt x xs e = absurd cc
-suffix_head (suc zero) lt x xs e = cc
-suffix_head (suc (suc zero)) lt x xs e = cc
-suffix_head (suc (suc (suc zero))) lt x xs e = cc
-suffix_head (suc (suc (suc (suc zero)))) lt x xs e = cc
-suffix_head (suc (suc (suc (suc (suc zero))))) lt x xs e = cc
-suffix_head (suc (suc (suc (suc (suc (suc zero)))))) lt x xs e = cc
-suffix_head (suc (suc (suc (suc (suc (suc (suc k))))))) lt x xs e = absurd (omega arith)
-
-pub suffix_first : (parent : ℕ) (s : Setting) (x : ℕ) (xs : List ℕ) → IsSuffix parent (x ∷ xs) s → x ≡ 64
-suffix_first parent s x xs h = suffix_head h.place h.listed x xs h.text_is
 
 -- The ending of a plain text behind 49 is grey.
 ending_grey : (parent : ℕ) (plain grey : Bool) (s : Setting) (c : ℕ) (z : List ℕ) → IsEnding parent plain (49 ∷ c ∷ z) grey s → (c ≡ 39) × (grey ≡ true) × IsSuffix parent z s

@@ -16,10 +16,9 @@ use Rattle.tensor_defs.specs.Symbols.{parent_texts, parent_text, operator_count,
 use Rattle.text_defs.specs.GroupTexts.{operators_in, with_primes, suffix_at, IsSuffix, IsFullText, grey_text}
 use Rattle.group_symbol.specs.Parts.{IsEnding, IsEndingText, IsFullTextOf}
 use Rattle.group_symbol.specs.Walks.{walk}
-use Rattle.text_laws.proofs.GroupUnique.{same_count}
+use Rattle.text_laws.proofs.GroupUnique.{same_count, in_text, suffix_first}
 use Rattle.group_symbol.proofs.Bodies.{Tails, Body, NoPrimes, IsOpen, Outcome, walk_outcome}
 use Rattle.group_symbol.proofs.Closed.{Taken, walk_taken, body_spelled, spelled_body}
-use Rattle.group_symbol.proofs.Endings.{suffix_first}
 use Rattle.group_symbol.proofs.SuffixRows.{no_suffix_is_one}
 
 -- ---- the table of parents
@@ -83,9 +82,6 @@ few_count n = omega (arith, same_count n, few_operators n)
 -- the operators of the table are as many as the signs of the text end
 counted : (n p : ℕ) → p < 2 ^ operators_in 0 (parent_text n) → p < 2 ^ operator_count n
 counted n p h = subst (λ (k : ℕ). p < 2 ^ k) (sym (same_count n)) h
-
-in_text : (n p : ℕ) → p < 2 ^ operator_count n → p < 2 ^ operators_in 0 (parent_text n)
-in_text n p h = subst (λ (k : ℕ). p < 2 ^ k) (same_count n) h
 
 -- ---- the endings that a parent's primes allow
 

@@ -1,11 +1,12 @@
 -- A walk over the signs of a parent, sign by sign.
 --   Stands    where the loop over the signs stands
-use Rattle.std.proofs.Common.{◌≡◌, ◌≢◌, ℕ, zero, suc, ◌+◌, ◌*◌, ◌<◌, ◌≤◌, ◌^◌, Bool, true, false, cond, List, [], ◌∷◌, length, get_or, drop, Result, Ok, Err, refl, sym, ap, ◌∙◌, arith, eq-eqb, lit≤, inl, inr}
+use Rattle.std.proofs.Common.{◌≡◌, ◌≢◌, ℕ, suc, ◌+◌, ◌*◌, ◌<◌, ◌≤◌, ◌^◌, Bool, true, false, cond, List, [], ◌∷◌, length, get_or, drop, Result, Ok, Err, refl, sym, ap, ◌∙◌, arith, eq-eqb, inl, inr}
 use Rattle.std.proofs.lemmas.List.{drop_more}
 use Rattle.std.proofs.lemmas.Bool.{ne_eqb, cases_lt}
 use Rattle.std.proofs.Math.ListN.{drop_of_length-le}
 use Rattle.std.proofs.Math.Nat.{pow-suc}
 use Rattle.text_defs.specs.GroupTexts.{ends_operator, operators_in}
+use Rattle.list_laws.proofs.Tests.{power_four}
 use Rattle.group_symbol.specs.Walks.{lift, after_sign, walk}
 
 pub lift_none : (r : Result (ℕ × ℕ) ℕ) → lift 0 1 0 r ≡ r
@@ -35,15 +36,7 @@ pub record Stands (signs word : List ℕ) (i at primes bit previous : ℕ) : Typ
   pub rest : walk 0 signs word ≡ lift primes bit at (walk previous (drop i signs) (drop at word))
 
 pub Stands-start : (signs word : List ℕ) → operators_in 0 signs ≤ 4 → Stands signs word 0 0 0 1 0
-Stands-start signs word few = record { within = omega arith; below = omega arith; room = omega (arith, pow_four (operators_in 0 signs) few); rest = sym (lift_none _) }
-  where
-    pow_four : (n : ℕ) → n ≤ 4 → 2 ^ n ≤ 16
-    pow_four zero h = lit≤ tt
-    pow_four (suc zero) h = lit≤ tt
-    pow_four (suc (suc zero)) h = lit≤ tt
-    pow_four (suc (suc (suc zero))) h = lit≤ tt
-    pow_four (suc (suc (suc (suc zero)))) h = lit≤ tt
-    pow_four (suc (suc (suc (suc (suc n))))) h = omega arith
+Stands-start signs word few = record { within = omega arith; below = omega arith; room = omega (arith, power_four (operators_in 0 signs) few); rest = sym (lift_none _) }
 
 module _ (signs word : List ℕ) (i at primes bit v : ℕ) (h : Stands signs word i at primes bit v) where
   pub Stands-end : length signs ≤ i → walk 0 signs word ≡ Ok (primes, at)

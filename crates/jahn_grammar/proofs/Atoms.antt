@@ -6,6 +6,7 @@ use Rattle.text_defs.specs.Languages.{IsFaulty}
 use Rattle.fault_places.proofs.Places.{Through, Through-step, Through-stuck, Through-short, Through-start}
 use Rattle.tensor_defs.specs.Jahn.{BracketKind, Atom, IsAtom, atom_rank, Symmetric, Antisymmetric, V, Bracketed}
 use Rattle.text_defs.specs.JahnTexts.{opening, closing, atom_text}
+use Rattle.list_laws.proofs.Lists.{heads, tails}
 use Rattle.jahn_grammar.specs.Views.{HasAtom, closer, IsOpening, IsDigit}
 
 -- The text closes the open brackets, the last one first, and then anything follows.
@@ -28,12 +29,6 @@ Opens os z = (a : Atom) × IsAtom a × (r : List ℕ) × (z ≡ atom_text a ++ r
 abbrev pub stack : List ℕ → ℕ → List ℕ
 stack word zero = []
 stack word (suc i) = get_or word i 0 ∷ stack word i
-
-heads : {x y : ℕ} {xs ys : List ℕ} → x ∷ xs ≡ y ∷ ys → x ≡ y
-heads e = cc
-
-tails : {x y : ℕ} {xs ys : List ℕ} → x ∷ xs ≡ y ∷ ys → xs ≡ ys
-tails e = cc
 
 closes_live : (os : List ℕ) → (z : List ℕ) × Closes os z
 closes_live [] = ([], tt)

@@ -1,5 +1,4 @@
 -- A factor at the front of a text, and a text that goes wrong in one.
---   one_atom        no atom's text begins another's
 --   factor_out      behind a factor whose power was read stand further factors
 --   factors_wrong   a text goes wrong in its factor where it goes wrong in the atom
 --   takes_power, takes_bare    the factor with and without a power behind its atom
@@ -7,34 +6,15 @@ use Rattle.std.proofs.Common.{◌≡◌, ◌≢◌, ℕ, ◌+◌, ◌-◌, ◌*�
 use Rattle.std.proofs.Common.{refl, sym, ap, subst, ◌∙◌, arith, inl, inr, append_assoc, lit≤}
 use Rattle.std.proofs.lemmas.Bool.Decides.{eqb_tells}
 use Rattle.std.proofs.lemmas.Bool.{ne_eqb}
-use Rattle.std.proofs.lemmas.List.{drop_more, take-append-drop}
+use Rattle.std.proofs.lemmas.List.{drop_more, take-append-drop, append-nil}
 use Rattle.text_defs.specs.Languages.{Begins, IsFaulty}
-use Rattle.tensor_defs.specs.Jahn.{Atom, Factor, IsAtom, IsFactor, atom_rank, Symmetric, Antisymmetric, V, Bracketed}
+use Rattle.tensor_defs.specs.Jahn.{Atom, Factor, IsAtom, IsFactor, atom_rank}
 use Rattle.text_defs.specs.JahnTexts.{atom_text, power_text, factor_text, no_marks}
+use Rattle.list_laws.proofs.Lists.{tails, first_part}
+use Rattle.text_laws.proofs.JahnUnique.{one_atom}
 use Rattle.jahn_grammar.specs.Views.{HasAtom, HasFactor, IsDigit, AreFactorsText, TakesFactor, AtomIs, FactorFrom}
 use Rattle.jahn_grammar.proofs.Atoms.{capped}
-use Rattle.jahn_grammar.proofs.Marks.{heads, tails, append_none, split, digit_begins_none}
-
-clash_numbers : (a b x : ℕ) → (a ≡ b → ⊥) → x ≡ a → x ≡ b → ⊥
-clash_numbers a b x ne e f = ne (sym e ∙ f)
-
--- No atom's text begins another's.
-pub one_atom : (a b : Atom) (x y : List ℕ) → atom_text a ++ x ≡ atom_text b ++ y → (a ≡ b) × (x ≡ y)
-one_atom V V x y e = (refl, tails e)
-one_atom V (Bracketed Symmetric b q) x y e = absurd (clash_numbers 86 91 86 (λ f. omega arith) refl (heads e))
-one_atom V (Bracketed Antisymmetric b q) x y e = absurd (clash_numbers 86 123 86 (λ f. omega arith) refl (heads e))
-one_atom (Bracketed Symmetric a p) V x y e = absurd (clash_numbers 91 86 91 (λ f. omega arith) refl (heads e))
-one_atom (Bracketed Antisymmetric a p) V x y e = absurd (clash_numbers 123 86 123 (λ f. omega arith) refl (heads e))
-one_atom (Bracketed Symmetric a p) (Bracketed Antisymmetric b q) x y e = absurd (clash_numbers 91 123 91 (λ f. omega arith) refl (heads e))
-one_atom (Bracketed Antisymmetric a p) (Bracketed Symmetric b q) x y e = absurd (clash_numbers 123 91 123 (λ f. omega arith) refl (heads e))
-one_atom (Bracketed Symmetric a p) (Bracketed Symmetric b q) x y e =
-    let inner = one_atom a b ((48 + p) ∷ 93 ∷ x) ((48 + q) ∷ 93 ∷ y) (sym (append_assoc (atom_text a) ((48 + p) ∷ 93 ∷ []) x) ∙ tails e ∙ append_assoc (atom_text b) ((48 + q) ∷ 93 ∷ []) y) in
-    let powers : p ≡ q = omega (arith, heads inner.1) in
-    (ap (λ (c : Atom). Bracketed Symmetric c p) inner.0 ∙ ap (λ (n : ℕ). Bracketed Symmetric b n) powers, tails (tails inner.1))
-one_atom (Bracketed Antisymmetric a p) (Bracketed Antisymmetric b q) x y e =
-    let inner = one_atom a b ((48 + p) ∷ 125 ∷ x) ((48 + q) ∷ 125 ∷ y) (sym (append_assoc (atom_text a) ((48 + p) ∷ 125 ∷ []) x) ∙ tails e ∙ append_assoc (atom_text b) ((48 + q) ∷ 125 ∷ []) y) in
-    let powers : p ≡ q = omega (arith, heads inner.1) in
-    (ap (λ (c : Atom). Bracketed Antisymmetric c p) inner.0 ∙ ap (λ (n : ℕ). Bracketed Antisymmetric b n) powers, tails (tails inner.1))
+use Rattle.jahn_grammar.proofs.Marks.{digit_begins_none}
 
 -- the text of a power that a digit says
 pub digit_text : (b : ℕ) → IsDigit b → power_text (b - 48) ≡ b ∷ []
@@ -106,13 +86,13 @@ factors_wrong v m f = record {
       record { atom = a; power = 1 },
       (is, lit≤ tt, lit≤ tt),
       [],
-      sym (append_none (atom_text a)) ∙ sym (append_assoc (atom_text a) [] []),
+      sym (append-nil (atom_text a)) ∙ sym (append_assoc (atom_text a) [] []),
       no_factors,
     )
 
     began : (more : List ℕ) → HasAtom (take m v ++ more) → Begins HasFactor (take m v)
     began more h =
-        elim (split (take m v) more (atom_text h.0) h.2 h.3) [
+        elim (first_part (take m v) more (atom_text h.0) h.2 h.3) [
           | inl s ↦ (s.0, (let P : List ℕ → Type 0 = HasFactor in subst P s.1 (alone h.0 h.1)))
           | inr s ↦ absurd (f.none (h.0, h.1, s.0 ++ drop m v, sym (take-append-drop m v) ∙ ap (λ (l : List ℕ). l ++ drop m v) s.1 ∙ append_assoc (atom_text h.0) s.0 (drop m v)))
         ]

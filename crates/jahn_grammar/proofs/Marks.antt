@@ -1,41 +1,16 @@
 -- Marks, and the factors behind them.
---   split           of two fronts of a text one is a front of the other
 --   mark_of         what stands behind some marks of marks is a mark
 --   marked_factor   behind marks that go no further stands a factor
 --   behind_factor, behind_one    the same at the front of a symbol's text, where 1 may stand too
 use Rattle.std.proofs.Common.{◌≡◌, ◌≢◌, ◌⊎◌, ℕ, ◌≤◌, Bool, true, false, List, [], ◌∷◌, ◌++◌, refl, sym, ap, subst}
 use Rattle.std.proofs.Common.{◌∙◌, arith, inl, inr, append_assoc, lit≤}
 use Rattle.std.specs.Prelude.{codes}
+use Rattle.std.proofs.lemmas.List.{append-nil, append_cancel_left}
 use Rattle.tensor_defs.specs.Tensor.{Marks}
 use Rattle.tensor_defs.specs.Jahn.{Atom, Factor, AreFactors, Symmetric, Antisymmetric, V, Bracketed}
 use Rattle.text_defs.specs.JahnTexts.{atom_text, power_text, factor_text, AreMarks, SpellsFactors, SpellsBody, IsJahnText}
+use Rattle.list_laws.proofs.Lists.{heads, tails, none_some, first_part}
 use Rattle.jahn_grammar.specs.Views.{IsMark, IsDigit, AreFactorsText, HasFactor}
-
-pub heads : {x y : ℕ} {xs ys : List ℕ} → x ∷ xs ≡ y ∷ ys → x ≡ y
-heads e = cc
-
-pub tails : {x y : ℕ} {xs ys : List ℕ} → x ∷ xs ≡ y ∷ ys → xs ≡ ys
-tails e = cc
-
-pub none_some : {y : ℕ} {ys : List ℕ} → [] ≡ y ∷ ys → ⊥
-none_some e = cc
-
-pub append_none : (l : List ℕ) → l ++ [] ≡ l
-append_none [] = refl
-append_none (x ∷ l) = ap (λ (k : List ℕ). x ∷ k) (append_none l)
-
-same_front : (u x y : List ℕ) → u ++ x ≡ u ++ y → x ≡ y
-same_front [] x y e = e
-same_front (b ∷ u) x y e = same_front u x y (tails e)
-
-pub split : (u more x r : List ℕ) → u ++ more ≡ x ++ r → ((t : List ℕ) × (x ≡ u ++ t)) ⊎ ((t : List ℕ) × (u ≡ x ++ t))
-split [] more x r e = inl (x, refl)
-split (b ∷ u) more [] r e = inr (b ∷ u, refl)
-split (b ∷ u) more (c ∷ x) r e =
-    elim (split u more x r (tails e)) [
-      | inl h ↦ inl (h.0, ap (λ (k : ℕ). k ∷ x) (sym (heads e)) ∙ ap (λ (l : List ℕ). b ∷ l) h.1)
-      | inr h ↦ inr (h.0, ap (λ (k : ℕ). k ∷ u) (heads e) ∙ ap (λ (l : List ℕ). c ∷ l) h.1)
-    ]
 
 -- ---- marks
 abbrev AllMarks : List ℕ → Type 0
@@ -119,23 +94,23 @@ module _ (u : List ℕ) (ax mg : Bool) (are : AreMarks u ax mg) (c : ℕ) (next 
   same_marks : (z m y : List ℕ) (a g : Bool) → AreMarks m a g → ((b : ℕ) (t : List ℕ) → y ≡ b ∷ t → IsMark b → ⊥) →
       u ++ (c ∷ z) ≡ m ++ y → c ∷ z ≡ y
   same_marks z m y a g am unmarked e =
-      elim (split u (c ∷ z) m y e) [
+      elim (first_part u (c ∷ z) m y e) [
         | inl s ↦ longer s.0 s.1
         | inr s ↦ shorter s.0 s.1
       ]
     where
       longer : (t : List ℕ) → m ≡ u ++ t → c ∷ z ≡ y
-      longer [] is = same_front u (c ∷ z) y (e ∙ ap (λ (l : List ℕ). l ++ y) (is ∙ append_none u))
+      longer [] is = append_cancel_left u (c ∷ z) y (e ∙ ap (λ (l : List ℕ). l ++ y) (is ∙ append-nil u))
       longer (b ∷ t) is =
           let both : u ++ (c ∷ z) ≡ u ++ (b ∷ (t ++ y)) = e ∙ ap (λ (l : List ℕ). l ++ y) is ∙ append_assoc u (b ∷ t) y in
-          let same : c ≡ b = heads (same_front u (c ∷ z) (b ∷ (t ++ y)) both) in
+          let same : c ≡ b = heads (append_cancel_left u (c ∷ z) (b ∷ (t ++ y)) both) in
           let P : List ℕ → Type 0 = λ (l : List ℕ). AreMarks l a g in
           absurd (next t a g (subst P (is ∙ ap (λ (k : ℕ). u ++ (k ∷ t)) (sym same)) am))
 
       shorter : (t : List ℕ) → u ≡ m ++ t → c ∷ z ≡ y
-      shorter [] is = same_front m (c ∷ z) y (ap (λ (l : List ℕ). l ++ (c ∷ z)) (sym (is ∙ append_none m)) ∙ e)
+      shorter [] is = append_cancel_left m (c ∷ z) y (ap (λ (l : List ℕ). l ++ (c ∷ z)) (sym (is ∙ append-nil m)) ∙ e)
       shorter (b ∷ t) is =
-          let behind : y ≡ b ∷ (t ++ (c ∷ z)) = same_front m y (b ∷ (t ++ (c ∷ z))) (sym e ∙ ap (λ (l : List ℕ). l ++ (c ∷ z)) is ∙ append_assoc m (b ∷ t) (c ∷ z)) in
+          let behind : y ≡ b ∷ (t ++ (c ∷ z)) = append_cancel_left m y (b ∷ (t ++ (c ∷ z))) (sym e ∙ ap (λ (l : List ℕ). l ++ (c ∷ z)) is ∙ append_assoc m (b ∷ t) (c ∷ z)) in
           let P : List ℕ → Type 0 = AllMarks in
           absurd (unmarked b (t ++ (c ∷ z)) behind (mark_of m b t (subst P is (marks_all u ax mg are))))
 

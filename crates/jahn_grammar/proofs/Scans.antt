@@ -6,7 +6,7 @@
 use Rattle.std.proofs.Common.{◌≡◌, ◌≢◌, ℕ, zero, suc, ◌+◌, ◌*◌, ◌<◌, ◌≤◌, Bool, true, false, List, [], ◌∷◌, ◌++◌, length, get_or}
 use Rattle.std.proofs.Common.{drop, min, refl, sym, ap, subst, ◌∙◌, arith, inl, inr, append_assoc, lit≤}
 use Rattle.std.specs.Prelude.{codes}
-use Rattle.std.proofs.lemmas.List.{drop_more, length-drop, length-append}
+use Rattle.std.proofs.lemmas.List.{drop_more, length-drop, length-append, append-nil}
 use Rattle.std.proofs.lemmas.Bool.{cases_lt}
 use Rattle.std.proofs.Math.ListN.{drop_of_length-le}
 use mathlib.Core.Bool.{xor}
@@ -17,9 +17,11 @@ use Rattle.tensor_defs.specs.Tensor.{Marks}
 use Rattle.tensor_defs.specs.Jahn.{Atom, Factor, JahnSymbol, IsFactor, AreFactors, atom_rank, factors_rank, V, Bracketed}
 use Rattle.text_defs.specs.JahnTexts.{atom_text, power_text, factor_text, AreMarks, SpellsFactors, SpellsBody, SpellsJahn, IsJahnText}
 use Rattle.text_defs.specs.JahnTexts.{no_marks, together}
+use Rattle.list_laws.proofs.Lists.{heads, none_some}
+use Rattle.list_laws.proofs.Tests.{xor_assoc}
 use Rattle.jahn_grammar.specs.Views.{HasAtom, HasFactor, IsDigit, MarksAre, AreFactorsText, TakesFactor, FactorFrom}
 use Rattle.jahn_grammar.proofs.FactorTexts.{factor_out, factors_wrong}
-use Rattle.jahn_grammar.proofs.Marks.{heads, none_some, append_none, behind_some, marked_some, marked_factor}
+use Rattle.jahn_grammar.proofs.Marks.{behind_some, marked_some, marked_factor}
 use Rattle.jahn_grammar.proofs.Marks.{marks_alone, behind_factor, behind_one, factor_behind, symbol_behind}
 
 -- ---- the front of a word
@@ -75,7 +77,7 @@ module _ (word : List ℕ) (front : ℕ) (h : MarksAre word front) where
   pub marks_body : length word ≤ front → front ≢ 0 → SpellsJahn word bare
   marks_body le some = record {
     are_factors = tt;
-    body = (h.marks, h.are, inl (λ none. some (sym h.size ∙ ap length none), h.text ∙ ap (λ (l : List ℕ). h.marks ++ l) (drop_of_length-le word le) ∙ append_none h.marks));
+    body = (h.marks, h.are, inl (λ none. some (sym h.size ∙ ap length none), h.text ∙ ap (λ (l : List ℕ). h.marks ++ l) (drop_of_length-le word le) ∙ append-nil h.marks));
   }
 
   pub marks_spelled : length word ≤ front → front ≢ 0 → (j : JahnSymbol) × SpellsJahn word j × (0 ≡ factors_rank j.factors) × (factors_rank j.factors ≤ 6)
@@ -94,16 +96,6 @@ empty_wrong [] le = faulty IsJahnText [] 0 nothing_spelled (refl, (codes "1", (r
 empty_wrong (b ∷ bs) le = absurd (omega arith)
 
 -- ---- one factor more
-xor_assoc : (a b c : Bool) → xor (xor a b) c ≡ xor a (xor b c)
-unfolding xor
-xor_assoc true true true = refl
-xor_assoc true true false = refl
-xor_assoc true false true = refl
-xor_assoc true false false = refl
-xor_assoc false true true = refl
-xor_assoc false true false = refl
-xor_assoc false false true = refl
-xor_assoc false false false = refl
 
 together_assoc : (l m n : Marks) → together (together l m) n ≡ together l (together m n)
 together_assoc l m n = λ i. record { axial = xor_assoc l.axial m.axial n.axial i; magnetic = xor_assoc l.magnetic m.magnetic n.magnetic i }
@@ -126,7 +118,7 @@ factors_snoc [] word marks m own f h are = (
   [],
   no_marks,
   (refl, refl),
-  ap (λ (l : List ℕ). l ++ (marks ++ factor_text f)) h.0 ∙ ap (λ (l : List ℕ). marks ++ l) (sym (append_none (factor_text f))),
+  ap (λ (l : List ℕ). l ++ (marks ++ factor_text f)) h.0 ∙ ap (λ (l : List ℕ). marks ++ l) (sym (append-nil (factor_text f))),
   ap (λ (n : Marks). together n own) h.1 ∙ together_none own,
 )
 factors_snoc (g ∷ fs) word marks m own f h are =
@@ -239,7 +231,7 @@ factor_next v n h some fs = by_rest (drop n v) refl
     by_rest [] e =
         let P : List ℕ → Type 0 = AreFactorsText in
         let Q : List ℕ → Type 0 = λ (l : List ℕ). 0 < length l in
-        let is : v ≡ h.marks = h.text ∙ ap (λ (l : List ℕ). h.marks ++ l) e ∙ append_none h.marks in
+        let is : v ≡ h.marks = h.text ∙ ap (λ (l : List ℕ). h.marks ++ l) e ∙ append-nil h.marks in
         absurd (late (subst Q (is ∙ marks_alone h.marks h.axial h.magnetic h.are (subst P is fs)) some))
     by_rest (c ∷ z) e =
         let P : List ℕ → Type 0 = AreFactorsText in
@@ -403,7 +395,7 @@ pub Spelled-end : (word : List ℕ) (at : ℕ) (fs : List Factor) (m : Marks) �
     SpellsFactors word fs m
 Spelled-end word at fs m s le =
     let P : List ℕ → Type 0 = λ (l : List ℕ). SpellsFactors l fs m in
-    let is : word ≡ s.front = s.text ∙ ap (λ (l : List ℕ). s.front ++ l) (drop_of_length-le word le) ∙ append_none s.front in
+    let is : word ≡ s.front = s.text ∙ ap (λ (l : List ℕ). s.front ++ l) (drop_of_length-le word le) ∙ append-nil s.front in
     subst P (sym is) s.spells
 
 pub Scanned-end : (word : List ℕ) (at rank : ℕ) → Scanned word at rank → length word ≤ at → (j : JahnSymbol) × SpellsJahn word j × (rank ≡ min (factors_rank j.factors) 7)

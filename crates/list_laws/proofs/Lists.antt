@@ -7,15 +7,17 @@
 --   element_at                    the element at a place within the list
 --   first_part                    of two equal joins one first part begins with the other
 --   drop_head                     a list from a place on, with the element that is read there
+--   text_at                       a text of a table of lent texts, read at a place
 --   option_cases                  an option is None or has a value
 -- In std: `append-nil`, `append_assoc`, `append_cancel_left`, `drop_more` (a list from a place on), `take_more`,
 -- `take_all`, `drop-drop`, `get_or_push`, `get_or_append_left` (lemmas.List); `Contains-push`, `Contains-push_cases`,
 -- `Contains-append_left` (lemmas.List.Elements); `same_Some`, `none-some`, `slice_get-get_or`, `slice_get_within`,
 -- `get_or_from_slice_get` (lemmas.Option).
 use Rattle.std.proofs.Common.{◌≡◌, ℕ, zero, suc, ◌<◌, List, [], ◌∷◌, length, get_or, drop, ◌+◌, refl, ap, sym, ◌∙◌, arith, ◌⊎◌, inl, inr}
-use Rattle.std.specs.Prelude.{◌++◌, Contains, Option, Some, None, slice_get}
+use Rattle.std.specs.Prelude.{◌++◌, Contains, Option, Some, None, slice_get, map}
 use Rattle.std.proofs.lemmas.List.{get_or_default, drop_more}
 use Rattle.std.proofs.lemmas.Option.{slice_get-get_or, slice_get_within, get_or_from_slice_get}
+use Rattle.std.specs.Borrow.{Bor}
 
 pub heads : {X : Type 0} {x y : X} {xs ys : List X} → x ∷ xs ≡ y ∷ ys → x ≡ y
 heads e = cc
@@ -73,6 +75,13 @@ first_part (a ∷ u) v (b ∷ x) y e = elim (first_part u v x y (tails e)) [
 pub drop_head : {X : Type 0} (xs : List X) (i : ℕ) (x : X) → i < length xs → x ≡ get_or xs i x →
     drop i xs ≡ x ∷ drop (i + 1) xs
 drop_head xs i x h e = drop_more xs i x h ∙ ap (λ y. y ∷ drop (i + 1) xs) (sym e)
+
+-- ---- tables
+pub text_at : (rows : List (Bor (List ℕ))) (k : ℕ) (d : Bor (List ℕ)) → k < length rows →
+    (get_or rows k d).now ≡ get_or (map (λ r. r.now) rows) k []
+text_at [] k d lt = absurd (omega arith)
+text_at (r ∷ rs) zero d lt = refl
+text_at (r ∷ rs) (suc k) d lt = text_at rs k d (omega arith)
 
 -- ---- options
 pub option_cases : {X : Type 0} (o : Option X) → (o ≡ None) ⊎ ((x : X) × (o ≡ Some x))

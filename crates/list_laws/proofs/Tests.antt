@@ -8,13 +8,18 @@
 --   plain_xor, xor_plain     an exclusive or with false, and of a boolean with itself
 --   xor_self
 --   xor_assoc
---   next_number, double_power    suc n as a sum, and the powers of 2
+--   next_number, same_power, double_power    suc n as a sum, and the powers of 2
+--   power_four               2 to at most the fourth is at most 16
+--   same_numbers_own, same_numbers_told    `same_numbers_in` is true of a list and itself, and only there
 -- In std (lemmas.Bool): `both_ways` (not false and true), `false≢true`, `cases_Bool`, `and_parts`, `and_from`,
 -- `or_left`, `or_right`, `or_cases`, `or_from`, `false_from_ne_true`; on tests of numbers `eq-eqb`, `ne_eqb`,
 -- `eqb-true`, `lt-ltb`, `ltb-true`, `le-ltb`, `leb-true`; `cases_lt`, `cases_eq`, `cases_order`.
 use Rattle.std.proofs.Common.{◌≡◌, ℕ, suc, ◌+◌, ◌*◌, ◌^◌, Bool, true, false, cond, ◌⊎◌, inl, inr, refl, ap, sym, ◌∙◌, arith}
 use mathlib.Core.Bool.{xor}
 use Rattle.std.proofs.Math.Nat.{pow-suc}
+use Rattle.std.proofs.Common.{zero, ◌≤◌, List, [], ◌∷◌, nat_eq, eq-eqb, lit≤}
+use Rattle.std.proofs.lemmas.Bool.{eqb-true}
+use Rattle.tensor_defs.specs.Lists.{same_numbers_in}
 
 pub same_truth : (a b : Bool) → (a ≡ true → b ≡ true) → (b ≡ true → a ≡ true) → a ≡ b
 same_truth true b f g = sym (f refl)
@@ -96,3 +101,30 @@ double_power n = ap (λ (k : ℕ). 2 ^ k) (sym (next_number n)) ∙ pow-suc 2 n 
   where
     twice : (m : ℕ) → m * 2 ≡ m + m
     twice m = omega arith
+
+pub same_power : (n : ℕ) → 2 ^ (0 + n) ≡ 2 ^ n
+same_power n = ap (λ (k : ℕ). 2 ^ k) (none_more n)
+  where
+    none_more : (n : ℕ) → 0 + n ≡ n
+    none_more n = omega arith
+
+pub power_four : (n : ℕ) → n ≤ 4 → 2 ^ n ≤ 16
+power_four zero h = lit≤ tt
+power_four (suc zero) h = lit≤ tt
+power_four (suc (suc zero)) h = lit≤ tt
+power_four (suc (suc (suc zero))) h = lit≤ tt
+power_four (suc (suc (suc (suc zero)))) h = lit≤ tt
+power_four (suc (suc (suc (suc (suc n))))) h = omega arith
+
+-- ---- lists of numbers
+pub same_numbers_own : (xs : List ℕ) → same_numbers_in xs xs ≡ true
+same_numbers_own [] = refl
+same_numbers_own (x ∷ xs) = both_of (nat_eq x x) (same_numbers_in xs xs) (eq-eqb x x refl) (same_numbers_own xs)
+
+pub same_numbers_told : (xs ys : List ℕ) → same_numbers_in xs ys ≡ true → xs ≡ ys
+same_numbers_told [] [] e = refl
+same_numbers_told [] (y ∷ ys) e = cc
+same_numbers_told (x ∷ xs) [] e = cc
+same_numbers_told (x ∷ xs) (y ∷ ys) e =
+    let parts = both (nat_eq x y) (same_numbers_in xs ys) e in
+    λ i. eqb-true x y parts.0 i ∷ same_numbers_told xs ys parts.1 i

@@ -20,6 +20,7 @@ use Rattle.tensor_defs.specs.Tensor.{Index, axis_at, component_number, digit, in
 use Rattle.tensor_laws.proofs.ComponentNumbers.{number-index_of, index_at}
 use Rattle.text_defs.specs.AnswerTexts.{component_line, component_name, digits_text, free_names, has_index, named, rational, row_text}
 use Rattle.text_defs.specs.NumberTexts.{NamedTerm, joined, later_terms, sum_text, term_text}
+use Rattle.text_laws.proofs.Joins.{equation_joined, free_joined}
 use Rattle.reduced_form.specs.declared.forms.Term.{Term}
 use Rattle.reduced_form.specs.Forms.{FormValue, form_table, free_at, row_at, term_of}
 use Rattle.reduced_form.specs.Texts.{IsLonger, lines_upto, named_terms, placed, sum_from}
@@ -158,7 +159,7 @@ pub name_done : (is : Index) (p : ℕ) → length is ≤ p → 84 ∷ digits_tex
 name_done is p end = ap (λ xs. 84 ∷ digits_text (map digit xs)) (take_all p is end)
 
 -- ---- lines
-name_read : (r : ℕ) (free : List ℕ) (k : ℕ) → k < length free →
+pub name_read : (r : ℕ) (free : List ℕ) (k : ℕ) → k < length free →
     get_or (map component_name (map (index_of r) free)) k [] ≡ component_name (index_of r (free_at free k))
 name_read r [] k l = absurd (omega arith)
 name_read r (x ∷ free) zero l = refl
@@ -175,17 +176,6 @@ pub terms_named : (r c : ℕ) (f : FormValue) → c < 3 ^ r → Each (λ t. t.fr
 terms_named r c f h e =
     ap (λ d. named (free_names (form_table r f)) (map term_of (row_at f.rows d))) (number-index_of r c h)
     ∙ row_named r f (row_at f.rows c) e
-
-equation_joined : (old name sum : List ℕ) → (((old ++ name) ++ (32 ∷ 61 ∷ 32 ∷ [])) ++ sum) ++ 10 ∷ [] ≡ old ++ ((name ++ 32 ∷ (61 ∷ 32 ∷ sum)) ++ 10 ∷ [])
-equation_joined old name sum =
-    ap (λ x. (x ++ sum) ++ 10 ∷ []) (append_assoc old name (32 ∷ 61 ∷ 32 ∷ []))
-    ∙ ap (λ x. x ++ 10 ∷ []) (append_assoc old (name ++ (32 ∷ 61 ∷ 32 ∷ [])) sum)
-    ∙ append_assoc old ((name ++ (32 ∷ 61 ∷ 32 ∷ [])) ++ sum) (10 ∷ [])
-    ∙ ap (λ x. old ++ (x ++ 10 ∷ [])) (append_assoc name (32 ∷ 61 ∷ 32 ∷ []) sum)
-
-free_joined : (old name : List ℕ) → (old ++ name) ++ (32 ∷ (codes "free" ++ 10 ∷ [])) ≡ old ++ ((name ++ 32 ∷ codes "free") ++ 10 ∷ [])
-free_joined old name =
-    append_assoc old name (32 ∷ (codes "free" ++ 10 ∷ [])) ∙ ap (λ x. old ++ x) (sym (append_assoc name (32 ∷ codes "free") (10 ∷ [])))
 
 pub free_line : (r c : ℕ) (f : FormValue) (old one new name : List ℕ) → has_index (map (index_of r) f.free) (index_of r c) ≡ true →
     name ≡ component_name (index_of r c) → one ≡ old ++ name → new ≡ one ++ (32 ∷ (codes "free" ++ 10 ∷ [])) →

@@ -28,7 +28,7 @@ pub fn append_to(out: &mut Vec<u8>, bytes: &[u8]) -> Result<(), NoMemory>
 }
 
 /// The name of a component: T and its index digits.
-fn name_of<R: Rank>(alloc: Global, c: Comp<R>) -> SmallVec<u8, 8>
+pub fn name_of<R: Rank>(alloc: Global, c: Comp<R>) -> SmallVec<u8, 8>
     ensures name { result.items ≡ component_name (index_of R.R c) }
     ensures short { length result.items ≤ 7 }
 {

@@ -9,7 +9,7 @@ use Rattle.text_defs.specs.Languages.{IsFaulty}
 use Rattle.text_defs.specs.declared.Format.{Format}
 use Rattle.text_laws.proofs.Words.{Visible, visible_tested}
 use Rattle.fault_places.proofs.Places.{Through, Through-start, Through-skip, Through-near, Through-faulty}
-use Rattle.fault_places.proofs.Furthest.{Furthest, Furthest-stay, Furthest-go, Furthest-all}
+use Rattle.fault_places.proofs.Furthest.{Furthest, Furthest-stay, Furthest-go, Furthest-all, Furthest-start}
 use Rattle.request_lines.specs.declared.keywords.Keyword.{Keyword}
 use Rattle.request_lines.specs.declared.keywords.Keyword.TheVariants.{Form, Group, Voigt, States, Pairs, Differ, Same}
 use Rattle.request_lines.specs.Words.{GroupSlot, IsWords}
@@ -30,12 +30,8 @@ module _ (format : Format) where
 
   pub nothing_tried : (line : List ℕ) → Tried line 0 0
   nothing_tried line =
-      let r = some_request Form in record {
-        within = omega arith;
-        begins = (r.0, (Form, r.1));
-        none = λ k lt. absurd (omega arith);
-        longest = λ k lt. absurd (omega arith);
-      }
+      let r = some_request Form in
+      Furthest-start (IsWorded format) (λ k z. IsRequestOf format (keyword_at k) z) line (r.0, (Form, r.1))
 
   place_of : Keyword → ℕ
   place_of Form = 0

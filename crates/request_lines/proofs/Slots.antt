@@ -15,9 +15,10 @@ use Rattle.text_defs.specs.GroupTexts.{grey_one}
 use Rattle.text_defs.specs.JahnTexts.{SpellsJahn}
 use Rattle.text_laws.proofs.Words.{Visible, visible_tested, visible_append, group_visible, jahn_visible}
 use Rattle.fault_places.proofs.Places.{Through, Through-step, Through-stuck, Through-short, Through-faulty}
+use Rattle.list_laws.proofs.Lists.{tails, none_some}
 use Rattle.request_lines.specs.Words.{Slot, GroupSlot, JahnSlot, ListSlot, WeightsSlot, weights_word, IsWordOf, IsEnding, IsWords}
 use Rattle.request_lines.specs.Words.{IsListOf, words_behind}
-use Rattle.request_lines.proofs.WordTexts.{Clean, Spaces, tails, none_some, word_faulty, word_through}
+use Rattle.request_lines.proofs.WordTexts.{Clean, Spaces, word_faulty, word_through}
 
 weights_visible : (z : List ℕ) (w : Weights) → z ≡ weights_word w → Visible z
 weights_visible z Plain e = subst Visible (sym e) (visible_tested (codes "c") refl)

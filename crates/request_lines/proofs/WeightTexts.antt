@@ -5,8 +5,8 @@ use Rattle.tensor_defs.specs.declared.Weights.{Weights}
 use Rattle.tensor_defs.specs.declared.Weights.TheVariants.{Plain, Shear}
 use Rattle.text_defs.specs.Languages.{IsFaulty}
 use Rattle.fault_places.proofs.Places.{faulty}
+use Rattle.list_laws.proofs.Lists.{heads, none_some}
 use Rattle.request_lines.specs.Words.{IsWeightsText, weights_word}
-use Rattle.request_lines.proofs.WordTexts.{heads, none_some}
 
 first_is : (b : ℕ) (z : List ℕ) (w : Weights) → b ∷ z ≡ weights_word w → (b ≡ 99) ⊎ (b ≡ 115)
 first_is b z Plain e = inl (heads e)

@@ -15,11 +15,12 @@ use Rattle.text_defs.specs.JahnTexts.{SpellsJahn, IsJahnText}
 use Rattle.text_defs.specs.Requests.{JahnAt, JahnWords, most_words}
 use Rattle.text_laws.proofs.Words.{Above, jahn_above_comma}
 use Rattle.fault_places.proofs.Places.{StopsAt, Through, Through-start, Through-step, Through-faulty}
+use Rattle.list_laws.proofs.Lists.{tails, none_some}
 use Rattle.request_lines.specs.declared.Span.{Span}
 use Rattle.request_lines.specs.Words.{IsListOf, words_behind}
 use Rattle.request_lines.specs.Parts.{WordEnds, word_at}
 use Rattle.request_lines.specs.Readings.{TellsJahn, TellsList, NthWord}
-use Rattle.request_lines.proofs.WordTexts.{Spaces, clean, split, tails, none_some, word_faulty, word_through}
+use Rattle.request_lines.proofs.WordTexts.{Spaces, clean, split, word_faulty, word_through}
 use Rattle.request_lines.proofs.Positions.{word_cut, word_size, word_clean, spaces, cut_at_end, at_separator, size_reaches}
 
 -- ---- the words of a list and its text

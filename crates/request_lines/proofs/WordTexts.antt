@@ -10,16 +10,8 @@ use Rattle.tensor_defs.specs.Lists.{Each}
 use Rattle.text_laws.proofs.Words.{Above}
 use Rattle.text_defs.specs.Languages.{IsFaulty}
 use Rattle.fault_places.proofs.Places.{StopsAt, After, Through, same_stop, same_stop_near, stops, faulty}
+use Rattle.list_laws.proofs.Lists.{heads, tails, none_some}
 use Rattle.request_lines.specs.Words.{Ended}
-
-pub heads : {x y : ℕ} {xs ys : List ℕ} → x ∷ xs ≡ y ∷ ys → x ≡ y
-heads e = cc
-
-pub tails : {x y : ℕ} {xs ys : List ℕ} → x ∷ xs ≡ y ∷ ys → xs ≡ ys
-tails e = cc
-
-pub none_some : {y : ℕ} {ys : List ℕ} → [] ≡ y ∷ ys → ⊥
-none_some e = cc
 
 module _ (separator : ℕ) where
   abbrev pub Clean : List ℕ → Type 0

@@ -1,5 +1,5 @@
 -- The texts of class lines, piece by piece.
-use Rattle.std.proofs.Common.{◌≡◌, ℕ, zero, suc, ◌+◌, ◌<◌, refl, ap, sym, ◌∙◌, arith, List, [], ◌∷◌, ◌++◌, length, get_or, take, drop, append_assoc}
+use Rattle.std.proofs.Common.{◌≡◌, ℕ, zero, suc, ◌+◌, ◌<◌, ap, sym, ◌∙◌, arith, List, [], ◌∷◌, ◌++◌, length, get_or, take, drop, append_assoc}
 use Rattle.std.specs.Prelude.{map, slice_get, Some, codes}
 use Rattle.std.specs.Fmt.{decimal}
 use Rattle.std.proofs.lemmas.List.{drop_more}
@@ -8,6 +8,7 @@ use Rattle.text_defs.specs.AnswerTexts.{class_line, class_lines, name_text, yes_
 use Rattle.text_defs.specs.NumberTexts.{spaced}
 use Rattle.twin_pairs.specs.declared.PairClass.{PairClass}
 use Rattle.twin_pairs.specs.Classes.{class_of}
+use Rattle.text_laws.proofs.Joins.{spaced_joined}
 use Rattle.state_answers.specs.Gaps.{gap}
 
 same : (m n : ℕ) → Some m ≡ Some n → m ≡ n
@@ -56,12 +57,6 @@ class_more i xs x out out' whole h is next e =
 
 -- ---- the line of a class
 -- the words of two lists, with a space between the lists
-spaced_joined : (w : List ℕ) (ws : List (List ℕ)) (v : List ℕ) (vs : List (List ℕ)) →
-    spaced (w ∷ (ws ++ v ∷ vs)) ≡ spaced (w ∷ ws) ++ 32 ∷ spaced (v ∷ vs)
-spaced_joined w [] v vs = refl
-spaced_joined w (x ∷ ws) v vs =
-    ap (λ t. w ++ 32 ∷ t) (spaced_joined x ws v vs)
-    ∙ sym (append_assoc w (32 ∷ spaced (x ∷ ws)) (32 ∷ spaced (v ∷ vs)))
 
 regrouped : (old a b d e : List ℕ) → (((old ++ a) ++ b) ++ d) ++ e ≡ old ++ ((a ++ (b ++ d)) ++ e)
 regrouped old a b d e = simp append_assoc

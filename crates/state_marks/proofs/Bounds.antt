@@ -6,7 +6,7 @@ use Rattle.std.proofs.Common.{◌≡◌, ℕ, zero, suc, ◌+◌, ◌*◌, ◌^�
 use Rattle.std.specs.Prelude.{nat_le, nat_eq, unsigned_abs}
 use Rattle.std.proofs.Math.Nat.{mul-le-mul, one-le-pow, pow-le-pow_right, pow-succ'}
 use Rattle.std.proofs.lemmas.Int.{unsigned_abs-mul}
-use Rattle.std.proofs.lemmas.Bool.Decides.{nat_tests}
+use Rattle.std.proofs.lemmas.Bool.{leb-true}
 use lib.IntN.{ℤ, pos, negsuc, neg_ℤ, ◌+ℤ◌, ◌*ℤ◌, +ℤ_idr}
 use Rattle.tensor_defs.specs.IntRing.{ring_ℤ, positive_mul}
 use Rattle.tensor_defs.specs.Lists.{Each}
@@ -21,6 +21,7 @@ use Rattle.list_laws.proofs.Tests.{both}
 use Rattle.number_laws.proofs.NumberLaws.{num_add-zero, num_zero-add, num_mul-zero, num_zero-mul, num_mul-one, num_one-mul, num_mul_comm, num_mul_assoc}
 use Rattle.exact_frac.proofs.Divisors.{gcd-one}
 use Rattle.number_laws.proofs.Fractions.{over-whole, zero_times}
+use Rattle.number_laws.proofs.NumberLaws.{num_minus_one-mul}
 use Rattle.exact_frac.proofs.Overs.{over-neg}
 use Rattle.exact_frac.proofs.Signs.{size-neg}
 use Rattle.exact_frac.proofs.Wide.{size-add}
@@ -304,16 +305,13 @@ entry_told g e x2 j =
 entry_told g e x3 j =
     row_told g.row_3 (both (row_small g.row_2) (row_small g.row_3) (both (row_small g.row_1) (cond (row_small g.row_2) (row_small g.row_3) false) e).1).1 j
 
-at_most : (a b : ℕ) → nat_le a b ≡ true → a ≤ b
-at_most a b e = grind (arith, nat_tests)
-
 abbrev pub HasSmallEntries : Operation → Type 0
 HasSmallEntries g = (i j : Axis) → (unsigned_abs (entry g i j).rational ≤ 2) × (unsigned_abs (entry g i j).root ≤ 1)
 
 told_small : (e : Entry) → small e ≡ true → (unsigned_abs e.rational ≤ 2) × (unsigned_abs e.root ≤ 1)
 told_small e h =
     let p = both (nat_le (unsigned_abs e.rational) 2) (nat_le (unsigned_abs e.root) 1) h in
-    (at_most (unsigned_abs e.rational) 2 p.0, at_most (unsigned_abs e.root) 1 p.1)
+    (leb-true (unsigned_abs e.rational) 2 p.0, leb-true (unsigned_abs e.root) 1 p.1)
 
 all_told : all_below 64 (λ n. all_small (operation_at n true)) ≡ true
 unfolding operation_at
@@ -360,12 +358,9 @@ axial_unit : (a : Bool) (g : Operation) (k : ℕ) → k < 128 → g ≡ nth_oper
 axial_unit true g k h e = elim (unit_determinant g k h e) [ inl u ↦ inl u | inr u ↦ inr (u ∙ one_down) ]
 axial_unit false g k h e = inl refl
 
-minus_times : (y : Number) → mul (neg num_one) y ≡ neg y
-minus_times y = ap (λ m. mul m y) (num_mul-one (whole (negsuc 0)))
-
 sign_times : (d b : ℕ) (s x : Number) → IsSignNumber s → IsBounded d b x → IsBounded d b (mul s x)
 sign_times d b s x (inl e) h = bounded-along d b (mul s x) x (ap (λ m. mul m x) e ∙ num_one-mul x) h
-sign_times d b s x (inr e) h = bounded-along d b (mul s x) (neg x) (ap (λ m. mul m x) e ∙ minus_times x) (bounded-neg d b x h)
+sign_times d b s x (inr e) h = bounded-along d b (mul s x) (neg x) (ap (λ m. mul m x) e ∙ num_minus_one-mul x) (bounded-neg d b x h)
 
 signed-bounded : (m : Marks) (g : Operation) (k : ℕ) → k < 128 → g ≡ nth_operation k → (d b : ℕ) (x : Number) → IsBounded d b x →
     IsBounded d b (mul (sign m g) x)

@@ -7,6 +7,7 @@
 use Rattle.std.proofs.Common.{◌≡◌, ◌≢◌, ℕ, zero, suc, ◌<◌, ◌⊎◌, inl, inr, Bool, true, false, cond, List, [], ◌∷◌, ◌++◌, length, map, take, refl, ap, sym, ◌∙◌, arith}
 use Rattle.std.specs.Prelude.{nat_eq, IsTrue}
 use Rattle.std.proofs.lemmas.Bool.Decides.{nat_tests}
+use Rattle.std.proofs.lemmas.Bool.{eq-eqb, ne_eqb}
 use Rattle.tensor_defs.specs.Lists.{Each, IsRising}
 use Rattle.tensor_defs.specs.Number.{num_zero, value_of}
 use Rattle.tensor_defs.specs.Table.{places_rise}
@@ -14,25 +15,19 @@ use Rattle.reduced_form.specs.declared.forms.Term.{Term}
 use Rattle.reduced_form.specs.Forms.{term_of}
 use Rattle.state_marks.specs.Sums.{factor_in, form_term_at}
 
-same_place : (a k : ℕ) → a ≡ k → nat_eq a k ≡ true
-same_place a k e = grind (arith, nat_tests)
-
-other_place : (a k : ℕ) → a ≢ k → nat_eq a k ≡ false
-other_place a k e = grind (arith, nat_tests)
-
 decided : (a k : ℕ) (b : Bool) → nat_eq a k ≡ b → (a ≡ k) ⊎ (a ≢ k)
 decided a k true e = inl (grind (arith, nat_tests))
-decided a k false e = inr (λ s. let t : nat_eq a k ≡ true = same_place a k s in let clash : true ≡ false = sym t ∙ e in cc)
+decided a k false e = inr (λ s. let t : nat_eq a k ≡ true = eq-eqb a k s in let clash : true ≡ false = sym t ∙ e in cc)
 
 pub same_or_other : (a k : ℕ) → (a ≡ k) ⊎ (a ≢ k)
 same_or_other a k = decided a k (nat_eq a k) refl
 
 module _ (k : ℕ) where
   factor-head : (t : Term) (ts : List Term) → t.free ≡ k → factor_in (t ∷ ts) k ≡ value_of t.factor
-  factor-head t ts e = ap (λ b. cond b (value_of t.factor) (factor_in ts k)) (same_place t.free k e)
+  factor-head t ts e = ap (λ b. cond b (value_of t.factor) (factor_in ts k)) (eq-eqb t.free k e)
 
   factor-tail : (t : Term) (ts : List Term) → t.free ≢ k → factor_in (t ∷ ts) k ≡ factor_in ts k
-  factor-tail t ts e = ap (λ b. cond b (value_of t.factor) (factor_in ts k)) (other_place t.free k e)
+  factor-tail t ts e = ap (λ b. cond b (value_of t.factor) (factor_in ts k)) (ne_eqb t.free k e)
 
   pub factor-other : (ts : List Term) (t : Term) → t.free ≢ k → factor_in (ts ++ t ∷ []) k ≡ factor_in ts k
   factor-other [] t e = factor-tail t [] e

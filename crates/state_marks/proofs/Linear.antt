@@ -2,10 +2,10 @@
 --   sum_to          the sum over the numbers below a bound
 --   value-by_factors    a table's value is the sum of its factors times the chosen numbers
 --   act-by_rows     the value that an operation makes of it is the sum of the rows in the state times the chosen numbers
-use Rattle.std.proofs.Common.{◌≡◌, ◌≢◌, ℕ, zero, suc, ◌<◌, inl, inr, true, false, cond, List, [], ◌∷◌, length, refl, ap, sym, ◌∙◌, arith}
+use Rattle.std.proofs.Common.{◌≡◌, ◌≢◌, ℕ, zero, suc, ◌<◌, inl, inr, false, cond, List, [], ◌∷◌, length, refl, ap, sym, ◌∙◌, arith}
 use Rattle.std.specs.Prelude.{nat_eq, nat_lt, IsTrue}
 use Rattle.std.proofs.lemmas.Bool.Decides.{nat_tests}
-use Rattle.std.proofs.lemmas.Bool.{cases_lt}
+use Rattle.std.proofs.lemmas.Bool.{cases_lt, eq-eqb, ne_eqb}
 use Rattle.tensor_defs.specs.Lists.{Each, IsRising}
 use Rattle.tensor_defs.specs.Number.{Number, add, mul, num_zero}
 use Rattle.tensor_defs.specs.Operation.{Operation}
@@ -55,17 +55,11 @@ sum_to-mul (suc n) c f = num_mul-add c (sum_to n f) (f n) ∙ ap (λ x. add x (m
 abbrev pub only : ℕ → Number → ℕ → Number
 only p y k = cond (nat_eq p k) y num_zero
 
-same_test : (p k : ℕ) → p ≡ k → nat_eq p k ≡ true
-same_test p k e = grind (arith, nat_tests)
-
-other_test : (p k : ℕ) → p ≢ k → nat_eq p k ≡ false
-other_test p k e = grind (arith, nat_tests)
-
 pub only-own : (p : ℕ) (y : Number) (k : ℕ) → p ≡ k → only p y k ≡ y
-only-own p y k e = ap (λ b. cond b y num_zero) (same_test p k e)
+only-own p y k e = ap (λ b. cond b y num_zero) (eq-eqb p k e)
 
 pub only-other : (p : ℕ) (y : Number) (k : ℕ) → p ≢ k → only p y k ≡ num_zero
-only-other p y k e = ap (λ b. cond b y num_zero) (other_test p k e)
+only-other p y k e = ap (λ b. cond b y num_zero) (ne_eqb p k e)
 
 pub sum_to-only : (n p : ℕ) (y : Number) → p < n → sum_to n (only p y) ≡ y
 sum_to-only zero p y h = absurd (omega (arith, h))
@@ -95,11 +89,11 @@ split u t ts e k = elim (same_or_other t.place k) as
       | inl p ↦
           (let rest : mul (factor_at ts k) (u k) ≡ num_zero =
           ap (λ x. mul x (u k)) (ap (factor_at ts) (sym p) ∙ above t ts e) ∙ num_zero-mul (u k) in
-          ap (λ b. mul (cond b (factor_of t) (factor_at ts k)) (u k)) (same_test t.place k p)
+          ap (λ b. mul (cond b (factor_of t) (factor_at ts k)) (u k)) (eq-eqb t.place k p)
           ∙ ap (λ x. mul (factor_of t) (u x)) (sym p)
           ∙ sym ((λ i. add (only-own t.place (mul (factor_of t) (u t.place)) k p i) (rest i)) ∙ num_add-zero _))
       | inr p ↦
-          ap (λ b. mul (cond b (factor_of t) (factor_at ts k)) (u k)) (other_test t.place k p)
+          ap (λ b. mul (cond b (factor_of t) (factor_at ts k)) (u k)) (ne_eqb t.place k p)
           ∙ sym (ap (λ x. add x (mul (factor_at ts k) (u k))) (only-other t.place (mul (factor_of t) (u t.place)) k p) ∙ num_zero-add _)
     ]
 

@@ -24,7 +24,7 @@ use Rattle.tensor_defs.specs.Tensor.{Marks, component_number}
 use Rattle.tensor_defs.specs.declared.Sign.{Sign}
 use Rattle.tensor_defs.specs.declared.Sign.TheVariants.{Plus, Minus}
 use Rattle.tensor_laws.proofs.IndexOrder.{index_order}
-use Rattle.tensor_laws.proofs.Unique.{same_free, same_terms}
+use Rattle.tensor_laws.proofs.Unique.{same_free, same_terms, fraction_one}
 use Rattle.answer_laws.proofs.DomainStates.{one_state_list}
 use Rattle.answer_laws.proofs.Groups as laws
 use Rattle.magnetic_groups.specs.Sets.{In, IsGroup}
@@ -39,7 +39,6 @@ use Rattle.state_marks.specs.declared.faults.DifferFault.TheVariants.{TooLarge}
 use Rattle.state_marks.specs.Told.{AreStateRows, AreTold, SomeRowGrows, SomeStateGrows, StateValue, TellsMarks, TellsState, fault_of, is_marked, none}
 use Rattle.state_marks.proofs.Bounds.{HasUnits, IsUnitNumber}
 use Rattle.state_marks.proofs.Distinct.{row_tells}
-use Rattle.state_marks.proofs.Parts.{fraction_one}
 use Rattle.state_marks.proofs.StateLaws.{grows_same, later-calm}
 
 group_of : (fs : List Operation) → IsGroup fs → laws.IsGroup (In fs)

@@ -3,16 +3,15 @@
 --   product-unit    a product with 1 or -1
 --   adds-first, adds-nothing    a part added to 0; a part 0
 --   IsAdding        the sums after the first terms of a row
-use Rattle.std.proofs.Common.{◌≡◌, ◌≢◌, ℕ, ◌+◌, ◌<◌, ◌⊎◌, inl, inr, Bool, true, false, ◌≤◌, lit<, List, length, map, take, set, refl, ap, sym, ◌∙◌, subst, arith, Result, Ok}
+use Rattle.std.proofs.Common.{◌≡◌, ◌≢◌, ℕ, ◌+◌, ◌<◌, ◌⊎◌, inl, inr, Bool, true, false, ◌≤◌, List, length, map, take, set, refl, ap, sym, ◌∙◌, subst, arith, Result, Ok}
 use Rattle.std.proofs.lemmas.List.{get_or-set_same, get_or-set_other, length-set, take_more, take_all}
 use Rattle.std.proofs.lemmas.Bool.Decides.{nat_tests}
 use Rattle.std.specs.Prelude.{◌==◌, if◌then◌else◌}
 use lib.IntN.{ℤ, pos, negsuc}
 use Rattle.tensor_defs.specs.Lists.{IsRising}
-use Rattle.tensor_defs.specs.Number.{Number, Fraction, Root3, fraction, over, add, mul, neg, whole, num_zero, num_one, root_3, value_of, HasParts, PartReaches, ProductReaches, one_over_one}
+use Rattle.tensor_defs.specs.Number.{Number, Fraction, Root3, over, add, mul, neg, whole, num_zero, num_one, root_3, value_of, HasParts, PartReaches, ProductReaches}
 use Rattle.tensor_defs.specs.Table.{places_rise}
 use Rattle.text_defs.specs.NumberTexts.{int_is, is_one}
-use Rattle.number_laws.proofs.Fractions.{over-fraction}
 use Rattle.number_laws.proofs.NumberLaws.{num_add-zero, num_mul-zero, num_zero-add, num_zero-mul, num_mul-one, num_mul_comm, num_neg-neg}
 use Rattle.exact_frac.specs.Held.{IsHeld, IsHeldAs, zero_over_one}
 use Rattle.exact_frac.proofs.Overs.{over-zero}
@@ -25,6 +24,7 @@ use Rattle.reduced_form.specs.declared.forms.Term.{Term}
 use Rattle.reduced_form.specs.Forms.{term_of}
 use Rattle.tensor_action.specs.Acting.{AddsPart, zero_root}
 use Rattle.tensor_action.proofs.SumLaws.{held_calm, root-value, zero_has, zero_held, zero_small}
+use Rattle.tensor_laws.proofs.Unique.{fraction_one}
 use Rattle.state_marks.specs.Sums.{AddsRow, AddsTerm, RowGrows, factor_in, form_term_at, root_at, sum_at}
 use Rattle.state_marks.proofs.Factors.{factor-absent, factor-at, factor-other, factor-own, rising-before, same_or_other}
 
@@ -44,10 +44,6 @@ parts_of_one : (n : ℤ) (d : ℕ) (b : Bool) → (d == 1) ≡ b → (if b then 
     (n ≡ pos 1) × (d ≡ 1)
 parts_of_one n d true e h = (whole_one n h, same_nat d 1 e)
 parts_of_one n d false e h = absurd (let clash : false ≡ true = h in cc)
-
-pub fraction_one : value_of one_over_one ≡ num_one
-unfolding fraction whole
-fraction_one = over-fraction (pos 1) 1 (lit< tt) ∙ refl
 
 pub one_told : (f : Fraction) → is_one f ≡ true → value_of f ≡ num_one
 one_told f h =

@@ -5,14 +5,15 @@
 use Rattle.std.proofs.Common.{◌≡◌, ℕ, zero, suc, ◌+◌, ◌-◌, ◌*◌, ◌/◌, ◌%◌, ◌<◌, ◌≤◌, ◌^◌, inl, inr, List, [], ◌∷◌, ◌++◌, length, map, drop, get_or, refl, ap, sym, ◌∙◌, subst, arith}
 use Rattle.std.proofs.Math.Nat.{mul_comm, pow-suc}
 use Rattle.std.proofs.lemmas.Bool.{cases_lt}
-use Rattle.std.proofs.lemmas.List.{drop_more, drop_all, length-drop}
+use Rattle.std.proofs.lemmas.List.{drop_more, drop_all, length-drop, append-nil}
 use Rattle.std.proofs.lemmas.Nat.{div-mul-add, mod-mul-add}
 use Rattle.tensor_defs.specs.Lists.{Each}
 use Rattle.tensor_defs.specs.Number.{mul, num_zero}
-use Rattle.tensor_defs.specs.Operation.{Axis, x1, x2, x3, Operation, value}
+use Rattle.tensor_defs.specs.Operation.{Axis, x1, Operation, value}
 use Rattle.tensor_defs.specs.Tensor.{Index, axis_at, coefficient, digit, index_of}
 use Rattle.number_laws.proofs.NumberLaws.{num_mul-zero, num_zero-mul}
 use Rattle.op_matrix.specs.View.{axis}
+use Rattle.tensor_action.proofs.FactorLaws.{axis-digit}
 use Rattle.state_marks.specs.Reaching.{Covers, IsNone, Reaches}
 use Rattle.list_laws.proofs.Members.{each_map}
 
@@ -61,10 +62,6 @@ covers-move Z W d a b (n ∷ ns) f h =
 covers-small : (Z : ℕ → Type 0) (a b : ℕ) (ns : List ℕ) → Covers Z a ns b → Each (λ n. n < b) ns
 covers-small Z a b [] h = tt
 covers-small Z a b (n ∷ ns) h = (h.1, covers-small Z (n + 1) b ns h.3)
-
-append-nothing : (xs : List ℕ) → xs ++ [] ≡ xs
-append-nothing [] = refl
-append-nothing (x ∷ xs) = ap (λ l. x ∷ l) (append-nothing xs)
 
 -- ---- one index more in front
 axis_same : (k : ℕ) → axis k ≡ axis_at k
@@ -122,7 +119,7 @@ module _ (g : Operation) (i : Axis) (is : Index) (w col : ℕ) (size : w ≡ 3 ^
       past : (old : List ℕ) → Covers (IsNone g (i ∷ is)) 0 old offset →
           Covers (IsNone g (i ∷ is)) offset [] (offset + w) → Covers (IsNone g (i ∷ is)) 0 old (offset + w)
       past old h k =
-          subst (λ xs. Covers (IsNone g (i ∷ is)) 0 xs (offset + w)) (append-nothing old)
+          subst (λ xs. Covers (IsNone g (i ∷ is)) 0 xs (offset + w)) (append-nil old)
           (covers-append (IsNone g (i ∷ is)) 0 offset (offset + w) old [] h k)
 
 -- the three columns
@@ -155,11 +152,6 @@ reach-none g is r ns l e =
       (omega arith, λ k p q. absurd (omega (arith, p, q))),
     ) in
     subst (λ js. Reaches g js ns) (sym none) (subst (λ ms. Reaches g [] ms) (sym e) start)
-
-axis-digit : (i : Axis) → axis (digit i - 1) ≡ i
-axis-digit x1 = refl
-axis-digit x2 = refl
-axis-digit x3 = refl
 
 module _ (g : Operation) (is : Index) (r : ℕ) (l : length is ≡ r) where
   pub reach-more : (done d : ℕ) (ms : List ℕ) → done < r → d ≡ digit (get_or is (r - 1 - done) x1) →

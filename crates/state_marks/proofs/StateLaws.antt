@@ -1,18 +1,18 @@
 -- The rows of all components in a state, one after the other, and those of all states.
-use Rattle.std.proofs.Common.{◌≡◌, ℕ, zero, suc, ◌+◌, ◌<◌, ◌≤◌, ◌^◌, inl, inr, Bool, false, List, [], ◌∷◌, ◌++◌, length, take, drop, get_or, refl, ap, sym, ◌∙◌, subst, arith}
+use Rattle.std.proofs.Common.{◌≡◌, ℕ, zero, suc, ◌+◌, ◌<◌, ◌≤◌, ◌^◌, inl, inr, Bool, false, List, [], ◌∷◌, ◌++◌, length, take, drop, get_or, ap, sym, ◌∙◌, subst, arith}
 use Rattle.std.specs.Prelude.{Contains, slice_get, Some}
 use Rattle.std.proofs.lemmas.Bool.{cases_lt}
 use Rattle.std.proofs.lemmas.List.{get_or_push, length_push}
 use Rattle.std.proofs.Math.ListN.{get_or-append}
 use Rattle.list_laws.proofs.Members.{each_map, each_take}
-use Rattle.tensor_defs.specs.Number.{Number, add, mul, PartReaches, ProductReaches}
-use Rattle.tensor_defs.specs.Lists.{Each}
+use Rattle.tensor_defs.specs.Number.{mul, PartReaches, ProductReaches}
 use Rattle.tensor_defs.specs.Operation.{Operation}
-use Rattle.tensor_defs.specs.StateRows.{StateRowGrows, factor_at, state_part, sum_of}
+use Rattle.tensor_defs.specs.StateRows.{StateRowGrows, factor_at, state_part}
 use Rattle.tensor_defs.specs.Table.{Table}
 use Rattle.tensor_defs.specs.Tensor.{Index, Marks, coefficient, component_number, index_of, indices, sign}
 use Rattle.tensor_rank.specs.IndexLaws.{component_below_at, index_number_at}
 use Rattle.answer_laws.proofs.Forms.{indices_of_rank}
+use Rattle.tensor_laws.proofs.Agreeing.{sum_of-same}
 use Rattle.state_marks.specs.declared.rows.RootTerm.{RootTerm}
 use Rattle.state_marks.specs.Adding.{IsRow}
 use Rattle.state_marks.specs.Told.{AreStateRows, AreTold, StateValue, none}
@@ -74,9 +74,6 @@ module _ (m : Marks) (g : Operation) (r : ℕ) (a : Table) where
           (rows.each c (omega (arith, below, h)))
 
 -- ---- growth depends on the terms at indices of the rank
-sum_same : (f h : Index → Number) (js : List Index) → Each (λ j. f j ≡ h j) js → sum_of f js ≡ sum_of h js
-sum_same f h [] e = refl
-sum_same f h (j ∷ js) e = λ i. add (e.0 i) (sum_same f h js e.1 i)
 
 pub grows_same : (m : Marks) (g : Operation) (a b : Table) (r : ℕ) (i : Index) → a.free ≡ b.free →
     ((c : Index) → length c ≡ r → a.terms c ≡ b.terms c) → StateRowGrows m g a r i → StateRowGrows m g b r i
@@ -94,7 +91,7 @@ grows_same m g a b r i free terms (k, h, inr p) = (
   subst (λ fs. k < length fs) free h,
   inr (
     p.0,
-    subst PartReaches (sum_same (state_part m g a i k) (state_part m g b i k) (take p.0 (indices r))
+    subst PartReaches (sum_of-same (state_part m g a i k) (state_part m g b i k) (take p.0 (indices r))
         (each_take (λ j. state_part m g a i k j ≡ state_part m g b i k j) (indices r) p.0
         (each_map (λ c. length c ≡ r) (λ j. state_part m g a i k j ≡ state_part m g b i k j)
         (λ c l. ap (λ ts. mul (mul (sign m g) (coefficient g i c)) (factor_at ts k)) (terms c l)) (indices r) (indices_of_rank r)))) p.1,

@@ -126,7 +126,7 @@ signed-root Plus x y = refl
 signed-root Minus x y = sym (neg-parts x y (whole (negsuc 0)) root_3)
 
 -- ---- entries at the indices of components
-axis-digit : (i : Axis) → axis (digit i - 1) ≡ i
+pub axis-digit : (i : Axis) → axis (digit i - 1) ≡ i
 axis-digit x1 = refl
 axis-digit x2 = refl
 axis-digit x3 = refl

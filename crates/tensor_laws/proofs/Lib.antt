@@ -13,3 +13,4 @@ pub mod ComponentNumbers
 pub mod BlockOrder
 pub mod Indices
 pub mod Sets
+pub mod States

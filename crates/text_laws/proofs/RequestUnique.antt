@@ -5,7 +5,7 @@
 --   one_request_spelled    no line of a format spells two requests
 use Rattle.std.proofs.Common.{◌≡◌, ◌⊎◌, ℕ, ◌+◌, ◌≤◌, cond, eqb, List, [], ◌∷◌, ◌++◌, get_or, length, refl, sym, ap, subst, ◌∙◌}
 use Rattle.std.proofs.Common.{append_assoc, arith, inl, inr, lit<, lit≤}
-use Rattle.std.proofs.lemmas.List.{length-append}
+use Rattle.std.proofs.lemmas.List.{length-append, append-nil}
 use Rattle.std.specs.Prelude.{codes}
 use Rattle.tensor_defs.specs.declared.Weights.{Weights}
 use Rattle.tensor_defs.specs.declared.Weights.TheVariants.{Plain, Shear}
@@ -23,10 +23,6 @@ use Rattle.text_laws.proofs.JahnUnique.{one_jahn}
 use Rattle.text_laws.proofs.Words.{Visible, visible_tested, visible_append, group_visible}
 use Rattle.text_laws.proofs.Words.{jahn_visible, jahn_above_comma, first_split, no_later, same_words}
 use Rattle.text_laws.specs.Laws.{OneRequest}
-
-append_none : (u : List ℕ) → u ++ [] ≡ u
-append_none [] = refl
-append_none (b ∷ u) = λ i. b ∷ append_none u i
 
 -- ---- the words of a line
 abbrev weights_word : Weights → List ℕ
@@ -100,7 +96,7 @@ list_of : (front line : List ℕ) (js : List JahnAt) → JahnWords front line js
 unfolding ListWords
 list_of front line [] h = absurd h
 list_of front line (j ∷ []) h =
-    (h.word, h.line_is ∙ ap (λ z. front ++ z) (append_none h.word), (h.spells, h.column))
+    (h.word, h.line_is ∙ ap (λ z. front ++ z) (append-nil h.word), (h.spells, h.column))
 list_of front line (j ∷ k ∷ js) h =
     let rest = list_of (front ++ (h.0 ++ codes ",")) line (k ∷ js) h.3 in
     let start : length (front ++ (h.0 ++ codes ",")) ≡ length front + length h.0 + 1 =
@@ -183,7 +179,7 @@ group_group : (front line : List ℕ) (g f : GroupAt) (h : GroupGroup front [] l
     (line ≡ front ++ (h.first ++ 32 ∷ h.second.word)) × GroupGroupWords front g f h.first h.second.word
 group_group front line g f h = (
   h.second.line_is ∙ two_words front h.first h.second.word []
-      ∙ ap (λ z. front ++ (h.first ++ 32 ∷ z)) (append_none h.second.word),
+      ∙ ap (λ z. front ++ (h.first ++ 32 ∷ z)) (append-nil h.second.word),
   record {
     first = h.spells_first;
     first_column = h.first_column;
@@ -215,7 +211,7 @@ group_group_jahn front line g f j h =
     let spaced_is : h.words ++ codes " " ≡ front ++ (u ++ 32 ∷ (v ++ codes " ")) = ap (λ z. z ++ codes " ") two.0
     ∙ with_space front u v in (
       h.jahn.line_is ∙ ap (λ z. z ++ (h.jahn.word ++ [])) spaced_is
-          ∙ ap (λ z. (front ++ (u ++ 32 ∷ (v ++ codes " "))) ++ z) (append_none h.jahn.word)
+          ∙ ap (λ z. (front ++ (u ++ 32 ∷ (v ++ codes " "))) ++ z) (append-nil h.jahn.word)
           ∙ three_words front u v h.jahn.word,
       record {
         groups = two.1;
@@ -259,7 +255,7 @@ words_of format line (Group g) worded h = record {
   others = h.word ∷ [];
   keyword_visible = visible_tested (codes "group") refl;
   visible = (group_visible h.word g.symbol h.spells, tt);
-  line_is = h.line_is ∙ ap (λ z. codes "group " ++ z) (append_none h.word);
+  line_is = h.line_is ∙ ap (λ z. codes "group " ++ z) (append-nil h.word);
   are_words = (h.word, refl, h.spells, h.column);
 }
 words_of format line (Voigt g j w) worded h =

@@ -18,6 +18,7 @@ use Rattle.text_defs.specs.GroupTexts.{ends_operator, with_primes, suffix_at, Sp
 use Rattle.text_defs.specs.JahnTexts.{atom_text, power_text, factor_text, AreMarks, SpellsFactors, SpellsBody}
 use Rattle.text_defs.specs.JahnTexts.{SpellsJahn}
 use Rattle.text_defs.specs.NumberTexts.{spaced}
+use Rattle.list_laws.proofs.Lists.{heads, tails, none_some}
 
 -- each byte is above the number
 abbrev pub Above : ℕ → List ℕ → Type 0
@@ -46,14 +47,6 @@ pub no_line_feed : (u : List ℕ) → Visible u → ¬ Contains u 10
 no_line_feed u h c = let lt : 32 < 10 = visible_at 10 u h c in omega arith
 
 -- ---- lines of words
-heads : {x y : ℕ} {xs ys : List ℕ} → x ∷ xs ≡ y ∷ ys → x ≡ y
-heads e = cc
-
-tails : {x y : ℕ} {xs ys : List ℕ} → x ∷ xs ≡ y ∷ ys → xs ≡ ys
-tails e = cc
-
-none_some : {y : ℕ} {ys : List ℕ} → [] ≡ y ∷ ys → ⊥
-none_some e = cc
 
 not_above : (n b : ℕ) → n < b → b ≡ n → ⊥
 not_above n b h e = omega arith

@@ -1,30 +1,26 @@
 -- The states of a class in their order.
---   state_exists, one_state, state_within, state_below    states
+--   state_within, state_below    states
 --   earlier_more, earlier_found, earlier_done, earlier_none    the first earlier state of the class
 --   IsListed    the members up to n
 use Rattle.std.proofs.Common.{◌≡◌, ℕ, zero, suc, ◌+◌, ◌-◌, ◌⊎◌, inl, inr, ◌<◌, ◌≤◌, Bool, true, false, List, [], ◌∷◌, ◌++◌, length, refl, ap, sym, ◌∙◌, arith, subst}
-use Rattle.std.specs.Prelude.{Contains, ◌↔◌, IsTrue, slice_index_or, Some, None, nat_lt}
+use Rattle.std.specs.Prelude.{Contains, ◌↔◌, IsTrue, Some, None, nat_lt}
 use Rattle.std.proofs.lemmas.Bool.Decides.{nat_tests}
-use Rattle.std.proofs.lemmas.Option.{slice_get-get_or, same_Some, slice_get_within}
+use Rattle.std.proofs.lemmas.Option.{slice_get_within}
 use Rattle.std.proofs.lemmas.List.Elements.{Contains-append_left, Contains-push, Contains-push_cases}
 use Rattle.std.proofs.lemmas.Bool.{cases_lt, false≢true}
 use Rattle.list_laws.proofs.Rising.{rising_push}
 use Rattle.list_laws.proofs.Members.{each_push, each_held, each_map, each_found}
 use Rattle.tensor_defs.specs.Lists.{Each, IsRising}
-use Rattle.tensor_defs.specs.Operation.{Operation, identity}
+use Rattle.tensor_defs.specs.Operation.{Operation}
 use Rattle.tensor_defs.specs.States.{InDouble, IsState, AreStates}
 use Rattle.magnetic_groups.specs.Sets.{In, IsGroup, IsWithin}
 use Rattle.magnetic_groups.proofs.Cosets.{coset_self}
 use Rattle.coset_states.specs.Numbering.{Cosets, TellsState}
+use Rattle.tensor_laws.proofs.States.{one_state, state_at}
 use Rattle.twin_pairs.specs.Classes.{TellsEarlier, AreMembers}
 use Rattle.twin_pairs.proofs.DoubleCosets.{double_self}
 
 -- ---- states
-pub state_exists : (reps : List Operation) (k : ℕ) → 1 ≤ k → k ≤ length reps → (s : Operation) × IsState reps k s
-state_exists reps k lo hi = let h : k - 1 < length reps = omega arith in (slice_index_or reps (k - 1) identity, (lo, slice_get-get_or reps (k - 1) identity h))
-
-pub one_state : (reps : List Operation) (k : ℕ) (g h : Operation) → IsState reps k g → IsState reps k h → g ≡ h
-one_state reps k g h p q = same_Some g h (sym p.1 ∙ q.1)
 
 pub state_within : (gs fs reps : List Operation) → AreStates (In gs) (In fs) reps → (k : ℕ) (s : Operation) → IsState reps k s → Contains gs s
 state_within gs fs reps a k s is = each_found (In gs) reps a.within (k - 1) s is.1
@@ -50,7 +46,7 @@ module _ (c : Cosets) (g : Operation) (ig : IsGroup c.whole) (jf : IsGroup c.sub
 
   pub earlier_found : (n k : ℕ) (b : Bool) → 1 ≤ n → n < k → k ≤ length c.reps → Tells n b → b ≡ true → TellsEarlier c g k (Some n)
   earlier_found n k b lo hi top t e =
-      let s : (s : Operation) × IsState c.reps n s = state_exists c.reps n lo (omega arith) in
+      let s : (s : Operation) × IsState c.reps n s = state_at c.reps n lo (omega arith) in
       (hi, (s.0, s.1, (at_state n b t s.0 s.1).0 e))
 
   pub earlier_done : (n k : ℕ) → k ≤ n → TellsEarlier c g n None → TellsEarlier c g k None

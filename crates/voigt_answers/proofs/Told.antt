@@ -1,16 +1,15 @@
 -- What is told of Voigt tables, carried over to the groups of symbols.
 --   voigt_same, grows_voigt    over sets of operations with the same members
---   one_blocks      a symbol has one list of blocks
 --   written_shape, fault_shape, fault_grows, fault_plain    what a fault tells
-use Rattle.std.proofs.Common.{◌≡◌, ◌↔◌, ℕ, zero, suc, ◌==◌, ◌*◌, cond, List, [], ◌∷◌, refl, sym, ◌∙◌, subst, inl, inr, arith}
+use Rattle.std.proofs.Common.{◌≡◌, ◌↔◌, ℕ, List, inl, inr}
 use Rattle.std.specs.Prelude.{Result, Ok, Err, IfErr}
 use Rattle.tensor_defs.specs.declared.Weights.{Weights}
 use Rattle.tensor_defs.specs.Frames.{AllOf, IsPlain}
 use Rattle.tensor_defs.specs.Group.{SameSet}
-use Rattle.tensor_defs.specs.Jahn.{Factor, JahnSymbol, atom_rank}
+use Rattle.tensor_defs.specs.Jahn.{JahnSymbol}
 use Rattle.tensor_defs.specs.Operation.{Operation}
 use Rattle.tensor_defs.specs.Orders.{block_before}
-use Rattle.tensor_defs.specs.Voigt.{HasBlocks, HasVoigtShape, IsVoigtTable, VoigtGrows, VoigtShape, VoigtTable}
+use Rattle.tensor_defs.specs.Voigt.{HasBlocks, HasVoigtShape, IsVoigtTable, VoigtGrows, VoigtTable}
 use Rattle.table_answers.proofs.SetLaws.{fits_admitted, grows_same, same_admitted}
 use Rattle.voigt_table.specs.declared.memory.VoigtFault.{VoigtFault}
 use Rattle.voigt_table.specs.declared.memory.VoigtFault.TheVariants.{Shape, TooLarge, NoMemory}
@@ -32,30 +31,6 @@ grows_voigt j G H bs w s g = elim g as (λ _. VoigtGrows j H bs w) [
   | inl x ↦ inl (grows_same j G H (block_before bs) s x)
   | inr y ↦ inr (y.0, fits_admitted j G H (block_before bs) y.0 (same_admitted j G H s) y.1, y.2, y.3, y.4, y.5, y.6)
 ]
-
--- ---- blocks
-abbrev factor_rank : Factor → ℕ
-factor_rank f = f.power * atom_rank f.atom
-
-abbrev blocks_by : List Factor → List ℕ
-blocks_by [] = []
-blocks_by (f ∷ []) = cond (factor_rank f == 2) (2 ∷ []) (2 ∷ 2 ∷ [])
-blocks_by (f ∷ h ∷ fs) = factor_rank f ∷ factor_rank h ∷ []
-
-abbrev HasThese : VoigtShape → Type 0
-HasThese s = blocks_by s.factors ≡ s.blocks
-
-blocks_told : (fs : List Factor) (bs : List ℕ) → HasBlocks fs bs → blocks_by fs ≡ bs
-blocks_told fs bs (zero, l, e) = subst HasThese e refl
-blocks_told fs bs (suc zero, l, e) = subst HasThese e refl
-blocks_told fs bs (suc (suc zero), l, e) = subst HasThese e refl
-blocks_told fs bs (suc (suc (suc zero)), l, e) = subst HasThese e refl
-blocks_told fs bs (suc (suc (suc (suc zero))), l, e) = subst HasThese e refl
-blocks_told fs bs (suc (suc (suc (suc (suc zero)))), l, e) = subst HasThese e refl
-blocks_told fs bs (suc (suc (suc (suc (suc (suc k))))), l, e) = absurd (omega (arith, l))
-
-pub one_blocks : (fs : List Factor) (bs cs : List ℕ) → HasBlocks fs bs → HasBlocks fs cs → bs ≡ cs
-one_blocks fs bs cs p q = sym (blocks_told fs bs p) ∙ blocks_told fs cs q
 
 -- ---- faults
 pub written_shape : {X P : Type 0} (res : Result X VoigtFault) → IfErr res (λ e. e ≡ NoMemory) → P → (res ≡ Err Shape) ↔ (P → ⊥)

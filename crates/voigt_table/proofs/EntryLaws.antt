@@ -17,6 +17,7 @@ use Rattle.tensor_defs.specs.Orders.{block_numbers}
 use Rattle.tensor_defs.specs.Tensor.{component_number, index_of}
 use Rattle.tensor_defs.specs.Voigt.{VoigtEntry, component_of, entries, rank_of_blocks, shift}
 use Rattle.tensor_rank.specs.Orders.{AreBlocks}
+use Rattle.list_laws.proofs.Tests.{both, same_numbers_told}
 use Rattle.voigt_table.specs.declared.entries.Blocks.{Blocks}
 use Rattle.voigt_table.specs.declared.entries.Blocks.TheVariants.{Pair, VectorPair, PairVector, TwoPairs}
 use Rattle.voigt_table.specs.Blocks.{component_at, entry_at, entry_count, entry_number, entry_of, sizes_of}
@@ -26,10 +27,6 @@ abbrev all_below : (ℕ → Bool) → ℕ → Bool
 all_below p zero = true
 all_below p (suc n) = cond (p n) (all_below p n) false
 
-pub both : (a b : Bool) → cond a b false ≡ true → (a ≡ true) × (b ≡ true)
-both true b e = (refl, e)
-both false b e = cc
-
 all_told : (p : ℕ → Bool) (n : ℕ) → all_below p n ≡ true → (k : ℕ) → k < n → p k ≡ true
 all_told p zero e k l = absurd (omega arith)
 all_told p (suc n) e k l =
@@ -38,14 +35,6 @@ all_told p (suc n) e k l =
       | inl h ↦ all_told p n parts.1 k h
       | inr h ↦ let same : k ≡ n = omega arith in ap p same ∙ parts.0
     ]
-
-pub same_numbers_told : (xs ys : List ℕ) → same_numbers_in xs ys ≡ true → xs ≡ ys
-same_numbers_told [] [] e = refl
-same_numbers_told [] (y ∷ ys) e = cc
-same_numbers_told (x ∷ xs) [] e = cc
-same_numbers_told (x ∷ xs) (y ∷ ys) e =
-    let parts = both (nat_eq x y) (same_numbers_in xs ys) e in
-    λ i. eqb-true x y parts.0 i ∷ same_numbers_told xs ys parts.1 i
 
 -- ---- the entries in order
 -- the first n values

@@ -3,7 +3,7 @@
 --   entry_found, entry_absent    whether an entry is among the free ones
 --   sum_grown, sum_done    a sum, term by term
 --   free_line, sum_line    the line of an entry
-use Rattle.std.proofs.Common.{◌≡◌, ℕ, zero, suc, ◌+◌, ◌<◌, ◌≤◌, Bool, true, false, cond, List, [], ◌∷◌, ◌++◌, map, length, get_or, refl, ap, sym, ◌∙◌, subst, arith, eq-eqb}
+use Rattle.std.proofs.Common.{◌≡◌, ℕ, zero, suc, ◌+◌, ◌<◌, ◌≤◌, Bool, true, false, List, [], ◌∷◌, ◌++◌, map, length, get_or, refl, ap, sym, ◌∙◌, subst, arith}
 use Rattle.std.specs.List.{flat_map}
 use Rattle.std.specs.Prelude.{if◌then◌else◌, codes, take}
 use Rattle.std.proofs.lemmas.Grind.{flat_map-append}
@@ -16,11 +16,13 @@ use Rattle.reduced_form.specs.declared.forms.Term.{Term}
 use Rattle.reduced_form.specs.Forms.{row_at, term_of}
 use Rattle.reduced_form.specs.Texts.{lines_upto, placed, sum_from}
 use Rattle.reduced_form.proofs.TextLaws.{sum_whole}
+use Rattle.list_laws.proofs.Tests.{same_numbers_own, same_numbers_told}
+use Rattle.text_laws.proofs.Joins.{equation_joined, free_joined}
 use Rattle.voigt_table.specs.declared.entries.Blocks.{Blocks}
 use Rattle.voigt_table.specs.Blocks.{entry_at, entry_count, entry_number, sizes_of}
 use Rattle.voigt_table.specs.Tables.{IsVoigtValue, VoigtValue, voigt_of}
 use Rattle.voigt_table.specs.Texts.{named_entries}
-use Rattle.voigt_table.proofs.EntryLaws.{entries_listed, firsts, number_told, same_numbers_told}
+use Rattle.voigt_table.proofs.EntryLaws.{entries_listed, firsts, number_told}
 
 -- ---- lines of entries by their numbers
 lines_first : (g : VoigtEntry → List ℕ) (h : ℕ → VoigtEntry) (n : ℕ) → lines_upto (λ k. g (h k)) n ≡ flat_map g (firsts h n)
@@ -37,9 +39,6 @@ lines_listed b g =
     lines_first g (entry_at (sizes_of b)) (entry_count (sizes_of b)) ∙ ap (flat_map g) (sym (entries_listed b))
 
 -- ---- whether an entry is free
-same_own : (xs : List ℕ) → same_numbers_in xs xs ≡ true
-same_own [] = refl
-same_own (x ∷ xs) = ap (λ t. cond t (same_numbers_in xs xs) false) (eq-eqb x x refl) ∙ same_own xs
 
 -- a test, or what is found later
 either : Bool → Bool → Bool
@@ -70,7 +69,7 @@ unfolding either
 entry_found h [] n k l e = absurd (omega arith)
 entry_found h (x ∷ free) n zero l e =
     either_here (same_numbers_in (h x) (h n)) (has_entry (map h free) (h n))
-    (ap (λ y. same_numbers_in (h y) (h n)) e ∙ same_own (h n))
+    (ap (λ y. same_numbers_in (h y) (h n)) e ∙ same_numbers_own (h n))
 entry_found h (x ∷ free) n (suc k) l e =
     either_later (same_numbers_in (h x) (h n)) (has_entry (map h free) (h n)) (entry_found h free n k (omega arith) e)
 
@@ -152,17 +151,6 @@ terms_named b v n is l e =
     subst (λ (bs : List ℕ). n < entry_count bs → entry_number bs (entry_at bs n) ≡ n) (sym is) (number_told b n) l in
     ap (λ k. named (map (entry_name v.weights) (voigt_of v).free) (map term_of (row_at v.rows k))) number
     ∙ row_named v (row_at v.rows n) e
-
-equation_joined : (old name sum : List ℕ) → (((old ++ name) ++ (32 ∷ 61 ∷ 32 ∷ [])) ++ sum) ++ 10 ∷ [] ≡ old ++ ((name ++ 32 ∷ (61 ∷ 32 ∷ sum)) ++ 10 ∷ [])
-equation_joined old name sum =
-    ap (λ x. (x ++ sum) ++ 10 ∷ []) (append_assoc old name (32 ∷ 61 ∷ 32 ∷ []))
-    ∙ ap (λ x. x ++ 10 ∷ []) (append_assoc old (name ++ (32 ∷ 61 ∷ 32 ∷ [])) sum)
-    ∙ append_assoc old ((name ++ (32 ∷ 61 ∷ 32 ∷ [])) ++ sum) (10 ∷ [])
-    ∙ ap (λ x. old ++ (x ++ 10 ∷ [])) (append_assoc name (32 ∷ 61 ∷ 32 ∷ []) sum)
-
-free_joined : (old name : List ℕ) → (old ++ name) ++ (32 ∷ (codes "free" ++ 10 ∷ [])) ≡ old ++ ((name ++ 32 ∷ codes "free") ++ 10 ∷ [])
-free_joined old name =
-    append_assoc old name (32 ∷ (codes "free" ++ 10 ∷ [])) ∙ ap (λ x. old ++ x) (sym (append_assoc name (32 ∷ codes "free") (10 ∷ [])))
 
 pub free_line : (v : VoigtValue) (e : VoigtEntry) (old one new name : List ℕ) → has_entry (voigt_of v).free e ≡ true →
     name ≡ entry_name v.weights e → one ≡ old ++ name → new ≡ one ++ (32 ∷ (codes "free" ++ 10 ∷ [])) →

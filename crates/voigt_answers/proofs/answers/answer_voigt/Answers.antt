@@ -7,7 +7,8 @@ use Rattle.magnetic_groups.specs.Sets.{In}
 use Rattle.tensor_laws.proofs.Sets.{same_back}
 use Rattle.table_answers.proofs.Told.{ok_always}
 use Rattle.voigt_table.specs.Tables.{voigt_of}
-use Rattle.voigt_answers.proofs.Told.{fault_grows, fault_plain, fault_shape, grows_voigt, one_blocks, voigt_same, written_shape}
+use Rattle.answer_laws.proofs.Voigts.{one_blocks}
+use Rattle.voigt_answers.proofs.Told.{fault_grows, fault_plain, fault_shape, grows_voigt, voigt_same, written_shape}
 use Rattle.voigt_answers.proofs.answers.answer_voigt.Goals as goal
 
 pub write_voigt-requires : goal.write_voigt-requires
