@@ -1,38 +1,60 @@
--- Texts of entries, rows and operations, and lists of lines.
-use Rattle.std.proofs.Common.{◌≡◌, ℕ, zero, suc, refl, ◌+◌, ◌≤◌, List, [], ◌∷◌, ◌++◌, length, append_assoc, sym, ◌∙◌, ap, lit≤}
-use Rattle.std.proofs.Common.{◌<◌, drop, get_or, arith}
-use Rattle.std.proofs.lemmas.List.{drop_more}
+-- The texts of matrices, and the lines of operations.
+--   texts_are       the table has the texts of the matrices, by computing
+--   row_text, text_at    the text of a table at a place, and that of an operation
+--   line_joined     the pieces of a line, appended one after another
+--   line_more, longer_more, longer_last    what is written and what is still to come, after one line more
+use Rattle.std.proofs.Common.{◌≡◌, ℕ, zero, suc, refl, ◌+◌, ◌/◌, ◌%◌, ◌<◌, Bool, true, false, List, [], ◌∷◌, ◌++◌, length, drop, get_or, append_assoc, sym, subst, ◌∙◌, ap, arith}
+use Rattle.std.specs.Prelude.{codes, map, Result, Ok, Err, OnOk, OnErr}
+use Rattle.std.specs.Borrow.{Bor}
 use Rattle.std.specs.Fmt.{digits, decimal}
-use Rattle.op_matrix.specs.declared.entry.Entry.{Entry}
-use Rattle.op_matrix.specs.declared.entry.Entry.TheVariants.{One, HalfRoot3, Half, Zero, MinusHalf, MinusHalfRoot3}
-use Rattle.op_matrix.specs.declared.entry.Entry.TheVariants.{MinusOne}
-use Rattle.op_matrix.specs.View.{entry_of, axis}
-use Rattle.tensor_defs.specs.Operation.{Operation, entry, in_row}
-use Rattle.answer_writers.specs.Rows.{row_of, IsLonger}
-use Rattle.text_defs.specs.AnswerTexts.{matrix_entry_text, line_of, numbered, operation_text}
+use Rattle.std.proofs.lemmas.List.{drop_more}
+use Rattle.tensor_defs.specs.Operation.{Operation}
+use Rattle.op_matrix.specs.Table.{matrices, nth, nth_operation, operation_at}
+use Rattle.text_defs.specs.AnswerTexts.{line_of, numbered, operation_text}
+use Rattle.text_defs.specs.NumberTexts.{spaced}
+use Rattle.answer_writers.specs.Rows.{ending_of, matrix_text, IsLonger}
+use Rattle.answer_writers.specs.declared.texts.TheConstants.{TEXTS}
 
-pub entry_short : (e : Entry) → length (matrix_entry_text (entry_of e)) ≤ 7
+pub texts_are : map (λ r. r.now) TEXTS ≡ map matrix_text matrices
 unfolding digits
-entry_short One = lit≤ tt
-entry_short HalfRoot3 = lit≤ tt
-entry_short Half = lit≤ tt
-entry_short Zero = lit≤ tt
-entry_short MinusHalf = lit≤ tt
-entry_short MinusHalfRoot3 = lit≤ tt
-entry_short MinusOne = lit≤ tt
+texts_are = refl
 
--- an entry of an operation is one of its row
-pub in_row_of : (g : Operation) (row col : ℕ) → entry g (axis row) (axis col) ≡ in_row (row_of g row) (axis col)
-in_row_of g zero col = refl
-in_row_of g (suc zero) col = refl
-in_row_of g (suc (suc n)) col = refl
+pub row_text : (rows : List (Bor (List ℕ))) (k : ℕ) (d : Bor (List ℕ)) → k < length rows →
+    (get_or rows k d).now ≡ get_or (map (λ r. r.now) rows) k []
+row_text [] k d h = absurd (omega arith)
+row_text (r ∷ rs) zero d h = refl
+row_text (r ∷ rs) (suc k) d h = row_text rs k d (omega arith)
 
--- three texts with one space between two, appended one after another
-pub three_texts : (old a b c l1 l2 l3 l4 l5 : List ℕ) → l1 ≡ old ++ a → l2 ≡ l1 ++ 32 ∷ [] → l3 ≡ l2 ++ b
-    → l4 ≡ l3 ++ 32 ∷ [] → l5 ≡ l4 ++ c → l5 ≡ old ++ (a ++ 32 ∷ (b ++ 32 ∷ c))
-three_texts old a b c l1 l2 l3 l4 l5 e1 e2 e3 e4 e5 =
-    e5 ∙ ap (λ l. l ++ c) (e4 ∙ ap (λ l. l ++ 32 ∷ []) (e3 ∙ ap (λ l. l ++ b) (e2 ∙ ap (λ l. l ++ 32 ∷ []) e1)))
-    ∙ simp append_assoc
+matrix_at : (gs : List Operation) (k : ℕ) → k < length gs → get_or (map matrix_text gs) k [] ≡ matrix_text (nth gs k)
+matrix_at [] k h = absurd (omega arith)
+matrix_at (g ∷ gs) zero h = refl
+matrix_at (g ∷ gs) (suc k) h = matrix_at gs k (omega arith)
+
+pub text_at : (texts : List (List ℕ)) (g : Operation) (k : ℕ) → texts ≡ map matrix_text matrices → k < 128 →
+    g ≡ nth_operation k → get_or texts (k / 2) [] ≡ matrix_text g
+unfolding nth_operation operation_at
+text_at texts g k all h is =
+    ap (λ l. get_or l (k / 2) []) all ∙ matrix_at matrices (k / 2) (omega arith) ∙ sym (ap matrix_text is)
+
+ended : (g : Operation) (p : Bool) → g.primed ≡ p → operation_text g ++ 10 ∷ [] ≡ matrix_text g ++ ending_of p
+ended g true e = rw e (simp append_assoc)
+ended g false e = rw e refl
+
+-- the pieces of a line, appended one after another
+pub line_joined : (word : List ℕ) (k : ℕ) (g : Operation) (old one two three : List ℕ) →
+    one ≡ old ++ spaced (word ∷ decimal k ∷ [] ∷ []) → two ≡ one ++ matrix_text g →
+    three ≡ two ++ ending_of g.primed → three ≡ old ++ line_of (word ∷ decimal k ∷ operation_text g ∷ [])
+line_joined word k g old one two three a b e =
+    e ∙ ap (λ l. l ++ ending_of g.primed) (b ∙ ap (λ l. l ++ matrix_text g) a)
+    ∙ regrouped old word (decimal k) (matrix_text g) (ending_of g.primed)
+    ∙ ap (λ l. old ++ (word ++ 32 ∷ (decimal k ++ 32 ∷ l))) (sym (ended g g.primed refl))
+    ∙ joined old word (decimal k) (operation_text g)
+  where
+    regrouped : (old w n m l : List ℕ) → ((old ++ (w ++ 32 ∷ (n ++ 32 ∷ []))) ++ m) ++ l ≡ old ++ (w ++ 32 ∷ (n ++ 32 ∷ (m ++ l)))
+    regrouped old w n m l = simp append_assoc
+
+    joined : (old w n m : List ℕ) → old ++ (w ++ 32 ∷ (n ++ 32 ∷ (m ++ 10 ∷ []))) ≡ old ++ ((w ++ 32 ∷ (n ++ 32 ∷ m)) ++ 10 ∷ [])
+    joined old w n m = simp append_assoc
 
 -- the line of the next operation, and those of the others
 numbered_more : (word : List ℕ) (k i : ℕ) (xs : List Operation) (d : Operation) → i < length xs →
@@ -60,3 +82,9 @@ longer_more old new new' more l e = record {
   more = l.more ++ more;
   grown = e ∙ ap (λ x. x ++ more) l.grown ∙ append_assoc old l.more more;
 }
+
+-- after a last piece, which was appended or refused
+pub longer_last : {A E : Type 0} (r : Result A E) (old new new' more : List ℕ) → IsLonger old new →
+    OnOk r (new' ≡ new ++ more) → OnErr r (new' ≡ new) → IsLonger old new'
+longer_last (Ok a) old new new' more l ok err = longer_more old new new' more l ok
+longer_last (Err e) old new new' more l ok err = subst (IsLonger old) (sym err) l

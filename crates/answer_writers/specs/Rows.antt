@@ -1,13 +1,18 @@
--- Rows of matrices, and lists that have grown.
---   row_of          a row of an operation, counted from 0
+-- Texts of matrices, what ends a line, and lists that have grown.
+--   matrix_text     the nine entries of an operation row by row
+--   ending_of       what ends the line of an operation
 --   IsLonger        a list that begins with another
-use Rattle.std.specs.Prelude.{◌≡◌, ℕ, zero, suc, List, ◌++◌}
-use Rattle.tensor_defs.specs.Operation.{Operation, Row}
+use Rattle.std.specs.Prelude.{◌≡◌, ℕ, Bool, true, false, List, [], ◌∷◌, ◌++◌, codes}
+use Rattle.tensor_defs.specs.Operation.{Operation}
+use Rattle.text_defs.specs.AnswerTexts.{row_entries}
+use Rattle.text_defs.specs.NumberTexts.{spaced}
 
-abbrev pub row_of : Operation → ℕ → Row
-row_of g zero = g.row_1
-row_of g (suc zero) = g.row_2
-row_of g (suc (suc n)) = g.row_3
+abbrev pub matrix_text : Operation → List ℕ
+matrix_text g = spaced (row_entries g.row_1 ++ (row_entries g.row_2 ++ row_entries g.row_3))
+
+abbrev pub ending_of : Bool → List ℕ
+ending_of true = codes " primed" ++ 10 ∷ []
+ending_of false = 10 ∷ []
 
 pub record IsLonger (old new : List ℕ) : Type 0 where
   pub more : List ℕ

@@ -3,12 +3,10 @@
 --   with_more    more after it changes nothing
 --   piece_none    one piece more without a name
 --   piece_some    the first piece with a name
---   kept    a filter, by pieces
 --   up_to_length, up_to_at    the numbers from 1
 --   told_at, primed_piece, below_count, past_count, at_number    the pieces of the look-up
 --   plain_named, grey_named, primed_named    the symbols of a parent and a setting
---   taken_piece, left_piece, settings_told, at_any    the settings of a parent
---   of_parent, parent_piece, number_at, all_named, no_parent    all parents
+--   row_is, all_oriented, all_named, parent_there    all oriented parents
 use Rattle.std.proofs.Common.{◌≡◌, ℕ, zero, suc, ◌+◌, ◌-◌, ◌^◌, ◌<◌, ◌≤◌, Bool, true, false, cond, List, [], ◌∷◌, ◌++◌, length, refl, ap, sym, ◌∙◌, arith, subst, take, append_assoc, add-one, ◌⊎◌, inl, inr}
 use Rattle.std.specs.Prelude.{Option, Some, None, slice_index_or, map, filter, SomeIff}
 use Rattle.std.specs.List.{flat_map}
@@ -16,13 +14,15 @@ use Rattle.std.proofs.lemmas.List.{length_push, get_or_append_left, get_or_push,
 use Rattle.std.proofs.lemmas.List.Concat.{flat_map_single}
 use Rattle.std.proofs.lemmas.Bool.{cases_lt}
 use Rattle.tensor_defs.specs.declared.Setting.{Setting}
-use Rattle.tensor_defs.specs.declared.Setting.TheVariants.{Default}
 use Rattle.group_symbol.specs.Readings.{symbol_of}
 use Rattle.tensor_defs.specs.Lists.{Each, up_to}
 use Rattle.tensor_defs.specs.Operation.{Operation}
-use Rattle.tensor_defs.specs.Symbols.{GroupSymbol, operator_count, takes_setting}
-use Rattle.tensor_defs.specs.Names.{IsNamed, IsNameOf, symbols, symbols_with, settings_of, turned_bits}
-use Rattle.group_names.specs.LookUps.{IsFirstNamed, pattern}
+use Rattle.tensor_defs.specs.Symbols.{GroupSymbol, operator_count, parent_operators}
+use Rattle.tensor_defs.specs.Names.{IsNamed, IsNameOf, symbols, symbols_with, turned_bits}
+use Rattle.group_names.specs.declared.oriented.Oriented.{Oriented}
+use Rattle.group_names.specs.declared.oriented.TheConstants.{ORIENTED}
+use Rattle.group_names.proofs.Matrices.{row_at}
+use Rattle.group_names.specs.LookUps.{IsFirstNamed, oriented, pattern, row_of}
 
 pub each_join : (P : GroupSymbol → Type 0) (xs ys : List GroupSymbol) → Each P xs → Each P ys → Each P (xs ++ ys)
 each_join P [] ys e f = f
@@ -71,18 +71,6 @@ module _ {X : Type 0} (H : Operation → Type 0) (g : X → List GroupSymbol) wh
   pieces_all (y ∷ ys) (suc i) h e =
       each_join (λ u. ¬ IsNamed u H) (g y) (flat_map g ys) (each_left (λ u. ¬ IsNamed u H) (g y) (flat_map g (take i ys)) e)
       (pieces_all ys i (omega arith) (each_right (λ u. ¬ IsNamed u H) (g y) (flat_map g (take i ys)) e))
-
--- a filter, by pieces
-abbrev pub kept : {X : Type 0} → (X → Bool) → (X → List GroupSymbol) → X → List GroupSymbol
-kept p g x = cond (p x) (g x) []
-
-filter_by : {X : Type 0} (p : X → Bool) (g : X → List GroupSymbol) (x : X) (xs : List X) (b : Bool) → p x ≡ b → flat_map g (filter p xs) ≡ flat_map (kept p g) xs → flat_map g (filter p (x ∷ xs)) ≡ flat_map (kept p g) (x ∷ xs)
-filter_by p g x xs true e h = rw e (ap (λ zs. g x ++ zs) h)
-filter_by p g x xs false e h = rw e h
-
-pub filter_pieces : {X : Type 0} (p : X → Bool) (g : X → List GroupSymbol) (xs : List X) → flat_map g (filter p xs) ≡ flat_map (kept p g) xs
-filter_pieces p g [] = refl
-filter_pieces p g (x ∷ xs) = filter_by p g x xs (p x) refl (filter_pieces p g xs)
 
 -- ---- the numbers from 1
 pub up_to_length : (n : ℕ) → length (up_to n) ≡ n
@@ -135,34 +123,19 @@ primed_named H n s o e g f =
     (after_none H (grey_of n s ∷ []) (primed_of n s) o g
     (subst (λ ts. IsFirstNamed H ts o) (flat_map_single (λ p. symbol_of n (turned_bits (operator_count n) p) false s) (up_to (2 ^ operator_count n - 1))) f))
 
--- ---- the settings of a parent
-pub taken_piece : (H : Operation → Type 0) (n : ℕ) (s : Setting) (b : Bool) (o : Option GroupSymbol) → b ≡ takes_setting n s → b ≡ true → IsFirstNamed H (symbols_with n s) o → IsFirstNamed H (kept (takes_setting n) (symbols_with n) s) o
-taken_piece H n s b o e h f = subst (λ c. IsFirstNamed H (cond c (symbols_with n s) []) o) (sym h ∙ e) f
+-- ---- all oriented parents
+pub row_is : (k : ℕ) → k < 61 → (d : Oriented) → slice_index_or ORIENTED k d ≡ row_of k
+unfolding row_of
+row_is k h d = get_or_default ORIENTED k d _ h
 
-pub left_piece : (H : Operation → Type 0) (n : ℕ) (s : Setting) (b : Bool) → b ≡ takes_setting n s → b ≡ false → IsFirstNamed H (kept (takes_setting n) (symbols_with n) s) None
-left_piece H n s b e h = subst (λ c. IsFirstNamed H (cond c (symbols_with n s) []) None) (sym h ∙ e) tt
+all_oriented : flat_map oriented ORIENTED ≡ symbols
+unfolding symbols parent_operators
+all_oriented = refl
 
-pub settings_told : (H : Operation → Type 0) (n : ℕ) (ss : List Setting) (o : Option GroupSymbol) → IsFirstNamed H (flat_map (kept (takes_setting n) (symbols_with n)) ss) o → IsFirstNamed H (flat_map (symbols_with n) (filter (takes_setting n) ss)) o
-settings_told H n ss o f = subst (λ ts. IsFirstNamed H ts o) (sym (filter_pieces (takes_setting n) (symbols_with n) ss)) f
+pub all_named : (H : Operation → Type 0) (o : Option GroupSymbol) → IsFirstNamed H (flat_map oriented ORIENTED) o → IsNameOf o H
+all_named H None f = subst (λ ts. IsFirstNamed H ts None) all_oriented f
+all_named H (Some t) f = subst (λ ts. IsFirstNamed H ts (Some t)) all_oriented f
 
-pub at_any : (ss : List Setting) (i : ℕ) → i < length ss → (d : Setting) → slice_index_or ss i d ≡ slice_index_or ss i Default
-at_any ss i h d = get_or_default ss i d Default h
-
--- ---- all parents
-abbrev pub of_parent : ℕ → List GroupSymbol
-of_parent n = flat_map (symbols_with n) (settings_of n)
-
-pub parent_piece : (H : Operation → Type 0) (n p : ℕ) (o : Option GroupSymbol) → p ≡ n → IsFirstNamed H (of_parent p) o → IsFirstNamed H (of_parent n) o
-parent_piece H n p o e f = subst (λ m. IsFirstNamed H (of_parent m) o) e f
-
-pub number_at : (place : ℕ) → place < 42 → (d : ℕ) → slice_index_or (up_to 42) place d ≡ place + 1
-number_at place h d = up_to_at 42 place h d
-
-pub all_named : (H : Operation → Type 0) (o : Option GroupSymbol) → IsFirstNamed H (flat_map of_parent (up_to 42)) o → IsNameOf o H
-unfolding symbols
-all_named H None f = f
-all_named H (Some t) f = f
-
-pub no_parent : (place : ℕ) (o : Option ℕ) → place < 42 → SomeIff o ((1 ≤ place + 1) × (place + 1 ≤ 42)) (place + 1) → o ≡ None → ⊥
-no_parent place None h s e = s (omega arith, omega arith)
-no_parent place (Some p) h s e = cc
+pub parent_there : (k n : ℕ) (o : Option ℕ) → k < 61 → n ≡ (row_of k).parent → SomeIff o ((1 ≤ n) × (n ≤ 42)) n → o ≡ None → ⊥
+parent_there k n None h e s q = let r = row_at k h in s (subst (λ x. 1 ≤ x) (sym e) r.first, subst (λ x. x ≤ 42) (sym e) r.last)
+parent_there k n (Some p) h e s q = cc

@@ -1,6 +1,7 @@
 pub mod FirstNamed
 pub mod PrimePatterns
-pub mod Names
-pub mod Orders
-pub mod RuledOut
 pub mod Forms
+pub mod Matrices
+pub mod Numbers
+pub mod RuledOut
+pub mod Names

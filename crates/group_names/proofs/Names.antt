@@ -1,18 +1,23 @@
 -- What a test of one symbol tells.
-use Rattle.std.proofs.Common.{◌≡◌, ℕ, ◌<◌, ◌≤◌, Bool, true, false, List, [], ◌∷◌, length, refl, ap, sym, ◌∙◌, arith, subst, inl, inr}
+use Rattle.std.proofs.Common.{◌≡◌, ℕ, ◌+◌, ◌*◌, ◌<◌, ◌≤◌, Bool, true, false, List, [], ◌∷◌, length, refl, ap, sym, ◌∙◌, arith, subst, inl, inr}
 use Rattle.std.specs.Prelude.{Contains, ◌↔◌, IsTrue, slice_index_or, Some, None}
+use mathlib.Core.Bool.{beq, not}
 use Rattle.std.proofs.lemmas.Bool.{false≢true}
-use Rattle.tensor_defs.specs.Lists.{IsListing}
+use Rattle.std.proofs.lemmas.List.Elements.{Contains-append_right}
+use Rattle.list_laws.proofs.Tests.{same_truth}
 use Rattle.tensor_defs.specs.Operation.{Operation, reversal}
-use Rattle.tensor_defs.specs.OperationOrder.{comes_before}
-use Rattle.tensor_defs.specs.Symbols.{GroupSymbol, IsGroupSymbol, generators}
+use Rattle.tensor_defs.specs.Symbols.{GroupSymbol, IsGroupSymbol, generators, operations_of, parent_operators}
 use Rattle.tensor_defs.specs.Group.{InGroup, IsAccepted, IsBelow}
 use Rattle.tensor_defs.specs.Names.{IsNamed}
 use Rattle.tensor_laws.proofs.Products.{generated_within}
-use Rattle.magnetic_groups.specs.Sets.{In, IsGroup, IsWithin}
+use Rattle.op_matrix.specs.Table.{nth_operation, operation_at}
+use Rattle.op_matrix.proofs.Facts.{nth_at}
+use Rattle.magnetic_groups.specs.Sets.{In, IsGroup}
+use Rattle.magnetic_groups.proofs.Members.{member_framed}
 use Rattle.magnetic_groups.proofs.Spans.{span_member}
-use Rattle.magnetic_groups.proofs.SymbolFrames.{generators_framed}
-use Rattle.group_names.specs.LookUps.{IsFirstNamed, HoldsAll}
+use Rattle.magnetic_groups.proofs.SymbolFrames.{generators_framed, grey_tail}
+use Rattle.group_names.specs.LookUps.{HasForm, IsFirstNamed, HoldsAll, SameForms}
+use Rattle.group_names.proofs.Matrices.{At, framed_at, both_marks, any_mark}
 
 -- a group with the generators holds the symbol's group
 pub below_told : (xs : List Operation) (t : GroupSymbol) → IsGroup xs → HoldsAll xs (generators t) → IsBelow (InGroup t) (In xs)
@@ -22,19 +27,46 @@ below_told xs t i h = generated_within (λ g. Contains (generators t) g) (In xs)
 pub named_holds : (xs : List Operation) (t : GroupSymbol) → IsGroupSymbol t → IsNamed t (In xs) → HoldsAll xs (generators t)
 named_holds xs t s n g c = (n.1 g).0 (span_member (generators t) g (generators_framed t s) c)
 
--- a symbol that isn't grey doesn't name a grey group
-pub named_plain : (xs : List Operation) (t : GroupSymbol) (grey : Bool) → grey ≡ t.grey → grey ≡ false → Contains xs reversal → IsNamed t (In xs) → ⊥
-named_plain xs t grey e f c (inl a, s) = false≢true (sym f ∙ e ∙ a)
-named_plain xs t grey e f c (inr a, s) = a ((s reversal).1 c)
+grey_held : (t : GroupSymbol) → t.grey ≡ true → Contains (generators t) reversal
+unfolding generators
+grey_held t e =
+    Contains-append_right (operations_of t.setting t.primes (parent_operators t.parent)) (grey_tail t.grey) reversal
+    (subst (λ x. Contains (grey_tail x) reversal) (sym e) (0, omega arith, refl))
 
-pub named_told : (xs own : List Operation) (t : GroupSymbol) (b : Bool) → IsBelow (InGroup t) (In xs) → IsListing comes_before (InGroup t) own → IsAccepted t → (IsTrue b ↔ IsWithin xs own) → IsTrue b ↔ IsNamed t (In xs)
-named_told xs own t b below l a w = (
-  λ h. (a, λ k. (below k, λ c. (l.members k).0 (w.0 h k c))),
-  λ n. w.1 (λ k c. (l.members k).1 ((n.1 k).1 c)),
-)
+-- the group of a grey symbol holds time reversal alone
+grey_reversal : (t : GroupSymbol) → IsGroupSymbol t → t.grey ≡ true → InGroup t reversal
+grey_reversal t i e = span_member (generators t) reversal (generators_framed t i) (grey_held t e)
 
-pub never_named : (xs : List Operation) (t : GroupSymbol) (b : Bool) → b ≡ false → ¬ IsNamed t (In xs) → IsTrue b ↔ IsNamed t (In xs)
-never_named xs t b e n = (λ h. absurd (false≢true (sym e ∙ h)), λ m. absurd (n m))
+-- a symbol is grey exactly where its group holds time reversal alone
+pub grey_alike : (xs : List Operation) (t : GroupSymbol) → IsGroupSymbol t → IsNamed t (In xs) → (t.grey ≡ true) ↔ Contains xs reversal
+grey_alike xs t i (a, s) = (λ e. (s reversal).0 (grey_reversal t i e), λ c. by a c)
+  where
+    by : IsAccepted t → Contains xs reversal → t.grey ≡ true
+    by (inl e) c = e
+    by (inr n) c = absurd (n ((s reversal).1 c))
+
+-- where both hold the same matrices, a symbol whose generators are elements names the group
+pub named_by : (xs : List Operation) (t : GroupSymbol) → IsGroup xs → IsGroupSymbol t → SameForms (InGroup t) (In xs) → ((t.grey ≡ true) ↔ Contains xs reversal) → HoldsAll xs (generators t) → IsNamed t (In xs)
+named_by xs t g i w r h = (accepted t.grey refl, λ k. (below_told xs t g h k, above k))
+  where
+    accepted : (b : Bool) → t.grey ≡ b → IsAccepted t
+    accepted true e = inl e
+    accepted false e = inr (λ k. false≢true (sym e ∙ r.1 (below_told xs t g h reversal k)))
+
+    -- the form of an element that the symbol's group holds is the element, or time reversal alone is there
+    form : (c : ℕ) (p q b : Bool) → c < 64 → t.grey ≡ b → InGroup t (operation_at c p) → Contains xs (operation_at c q) → InGroup t (operation_at c q)
+    form c p q true l e a x = any_mark t i c p q l (grey_reversal t i e) a
+    form c true true false l e a x = a
+    form c false false false l e a x = a
+    form c true false false l e a x = absurd (false≢true (sym e ∙ r.1 (both_marks xs (operation_at c false) (operation_at c true) c g l x (below_told xs t g h (operation_at c true) a) refl refl)))
+    form c false true false l e a x = absurd (false≢true (sym e ∙ r.1 (both_marks xs (operation_at c false) (operation_at c true) c g l (below_told xs t g h (operation_at c false) a) x refl refl)))
+
+    above : (k : Operation) → Contains xs k → InGroup t k
+    above k x =
+        let a : At k = framed_at k (member_framed xs k g.frame x) in
+        let y : Contains xs (operation_at a.0 k.primed) = subst (Contains xs) a.2 x in
+        let f : HasForm (InGroup t) a.0 = (w a.0 a.1).1 (k.primed, y) in
+        subst (InGroup t) (sym a.2) (form a.0 f.0 k.primed t.grey a.1 refl f.1 y)
 
 -- of one symbol
 pub one_named : (H : Operation → Type 0) (t u : GroupSymbol) (b : Bool) → u ≡ t → (IsTrue b ↔ IsNamed u H) → b ≡ true → IsFirstNamed H (t ∷ []) (Some u)
@@ -56,11 +88,45 @@ outside_told xs gs n g b h at w e = (
   λ i. absurd (false≢true (sym e ∙ w.1 (i g (n, h, sym at)))),
 )
 
-pub inside_told : (xs gens : List Operation) (t : GroupSymbol) (b : Bool) → IsGroup xs → gens ≡ generators t → (IsTrue b ↔ HoldsAll xs gens) → b ≡ true → IsBelow (InGroup t) (In xs)
-inside_told xs gens t b i e w h = below_told xs t i (subst (HoldsAll xs) e (w.0 h))
+-- ---- the answers of the test
+unlike : (a b : Bool) → not (beq a b) ≡ true → ¬ (a ≡ b)
+unlike true true e s = cc
+unlike true false e s = cc
+unlike false true e s = cc
+unlike false false e s = cc
 
-pub other_told : (xs gens : List Operation) (t : GroupSymbol) (b : Bool) → IsGroupSymbol t → gens ≡ generators t → (IsTrue b ↔ HoldsAll xs gens) → b ≡ false → ¬ IsNamed t (In xs)
-other_told xs gens t b s e w h n = false≢true (sym h ∙ w.1 (subst (HoldsAll xs) (sym e) (named_holds xs t s n)))
+alike : (a b : Bool) → not (beq a b) ≡ false → a ≡ b
+alike true true e = refl
+alike true false e = cc
+alike false true e = cc
+alike false false e = refl
 
-pub grey_told : (xs : List Operation) (t : GroupSymbol) (grey b : Bool) (r : Operation) → grey ≡ t.grey → grey ≡ false → r ≡ reversal → (IsTrue b ↔ Contains xs r) → b ≡ true → ¬ IsNamed t (In xs)
-grey_told xs t grey b r e f q w h n = named_plain xs t grey e f (subst (Contains xs) q (w.0 h)) n
+pub unlike_told : (xs : List Operation) (t : GroupSymbol) (grey has : Bool) (r : Operation) → IsGroupSymbol t → grey ≡ t.grey → (IsTrue has ↔ Contains xs r) → r ≡ reversal → not (beq grey has) ≡ true → IsTrue false ↔ IsNamed t (In xs)
+unlike_told xs t grey has r i e w q n = (
+  λ x. absurd (false≢true x),
+  λ m. let a = grey_alike xs t i m in
+      absurd (unlike grey has n (same_truth grey has (λ x. w.1 (subst (Contains xs) (sym q) (a.0 (sym e ∙ x)))) (λ x. e ∙ a.1 (subst (Contains xs) q (w.0 x))))),
+)
+
+pub test_told : (xs gens : List Operation) (t : GroupSymbol) (grey has b : Bool) (r : Operation) → IsGroup xs → IsGroupSymbol t → SameForms (InGroup t) (In xs) → grey ≡ t.grey → (IsTrue has ↔ Contains xs r) → r ≡ reversal → not (beq grey has) ≡ false → gens ≡ generators t → (IsTrue b ↔ HoldsAll xs gens) → IsTrue b ↔ IsNamed t (In xs)
+test_told xs gens t grey has b r g i s e w q n is held = (
+  λ x. named_by xs t g i s (λ y. subst (Contains xs) q (w.0 (sym (alike grey has n) ∙ e ∙ y)), λ y. sym e ∙ alike grey has n ∙ w.1 (subst (Contains xs) (sym q) y)) (subst (HoldsAll xs) is (held.0 x)),
+  λ m. held.1 (subst (HoldsAll xs) (sym is) (named_holds xs t i m)),
+)
+
+-- ---- the forms of a matrix
+pub even_form : (c : ℕ) (u : Operation) → u ≡ nth_operation (2 * c) → u ≡ operation_at c false
+even_form c u e = let s : 2 * c ≡ 2 * c + 0 = omega arith in e ∙ ap nth_operation s ∙ nth_at c false
+
+pub odd_form : (c : ℕ) (u : Operation) → u ≡ nth_operation (2 * c + 1) → u ≡ operation_at c true
+odd_form c u e = e ∙ nth_at c true
+
+pub form_found : (xs : List Operation) (c : ℕ) (u : Operation) (b : Bool) → u ≡ operation_at c false → (IsTrue b ↔ Contains xs u) → b ≡ true → IsTrue true ↔ HasForm (In xs) c
+form_found xs c u b e w t = (λ x. (false, subst (Contains xs) e (w.0 t)), λ f. refl)
+
+pub form_told : (xs : List Operation) (c : ℕ) (u v : Operation) (b d : Bool) → u ≡ operation_at c false → v ≡ operation_at c true → (IsTrue b ↔ Contains xs u) → (IsTrue d ↔ Contains xs v) → b ≡ false → IsTrue d ↔ HasForm (In xs) c
+form_told xs c u v b d e e' w w' f = (λ x. (true, subst (Contains xs) e' (w'.0 x)), λ h. by h.0 h.1)
+  where
+    by : (q : Bool) → Contains xs (operation_at c q) → IsTrue d
+    by true h = w'.1 (subst (Contains xs) (sym e') h)
+    by false h = absurd (false≢true (sym f ∙ w.1 (subst (Contains xs) (sym e) h)))

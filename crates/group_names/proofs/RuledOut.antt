@@ -1,7 +1,6 @@
--- The symbols of a parent that are ruled out together.
-use Rattle.std.proofs.Common.{◌≡◌, ℕ, zero, suc, ◌+◌, ◌-◌, ◌*◌, ◌/◌, ◌%◌, ◌^◌, ◌<◌, ◌≤◌, Bool, true, false, cond, List, [], ◌∷◌, refl, ap, sym, ◌∙◌, arith}
-use Rattle.std.specs.Prelude.{None, map}
-use Rattle.std.specs.List.{flat_map}
+-- The symbols of a parent in a setting that are ruled out together, and those of a row of the oriented parents.
+use Rattle.std.proofs.Common.{◌≡◌, ℕ, zero, suc, ◌+◌, ◌-◌, ◌*◌, ◌/◌, ◌%◌, ◌^◌, ◌<◌, ◌≤◌, Bool, true, false, List, [], ◌∷◌, refl, sym, subst, ◌∙◌, arith}
+use Rattle.std.specs.Prelude.{None, map, ◌↔◌}
 use Rattle.std.proofs.Math.Nat.{pow-succ'}
 use Rattle.std.proofs.lemmas.Nat.{pow_pos}
 use Rattle.std.proofs.lemmas.Bool.{false≢true}
@@ -10,9 +9,11 @@ use Rattle.tensor_defs.specs.Lists.{Each, up_to}
 use Rattle.tensor_defs.specs.Operation.{Operation}
 use Rattle.tensor_defs.specs.Symbols.{GroupSymbol, IsGroupSymbol, operator_count, takes_setting}
 use Rattle.tensor_defs.specs.Names.{IsNamed, symbols_with, turned_bits}
+use Rattle.op_matrix.specs.Table.{operation_at}
 use Rattle.magnetic_groups.specs.Sets.{In}
-use Rattle.group_names.specs.LookUps.{BoundsOrder, IsFirstNamed, order_of}
-use Rattle.group_names.proofs.FirstNamed.{each_join, kept}
+use Rattle.group_names.specs.LookUps.{HasForm, HaveForms, IsFirstNamed, IsNumberOf, oriented, row_of}
+use Rattle.group_names.proofs.Matrices.{is_in, matrices_of, same_matrices, IsRow, row_at}
+use Rattle.group_names.proofs.Numbers.{digits_number, number_agrees, number_same}
 
 small : (m p s : ℕ) → m < 2 → s < p → m * p + s < 2 * p
 small zero p s h k = omega arith
@@ -45,15 +46,37 @@ module _ (H : Operation → Type 0) (n : ℕ) (first : 1 ≤ n) (last : n ≤ 42
       ),
     )
 
-  piece_out : (s : Setting) (b : Bool) → takes_setting n s ≡ b → ((t : GroupSymbol) → IsGroupSymbol t → t.parent ≡ n → ¬ IsNamed t H) → Each (λ u. ¬ IsNamed u H) (cond b (symbols_with n s) [])
-  piece_out s true e out = setting_out s e (λ t i p q. out t i p)
-  piece_out s false e out = tt
+-- the number of a row
+row_number : (k : ℕ) (t : GroupSymbol) → k < 61 → t.parent ≡ (row_of k).parent → t.setting ≡ (row_of k).setting → IsNumberOf (λ c. is_in (matrices_of t.parent t.setting) c ≡ true) 64 (row_of k).matrices
+row_number k t h p s =
+    subst (λ x. IsNumberOf (λ c. is_in (matrices_of t.parent x) c ≡ true) 64 (row_of k).matrices) (sym s)
+    (subst (λ x. IsNumberOf (λ c. is_in (matrices_of x (row_of k).setting) c ≡ true) 64 (row_of k).matrices) (sym p)
+    (subst (IsNumberOf (λ c. is_in (matrices_of (row_of k).parent (row_of k).setting) c ≡ true) 64) (sym (row_at k h).digits)
+    (digits_number (is_in (matrices_of (row_of k).parent (row_of k).setting)) 64)))
 
-  -- those with all settings
-  pub parent_out : (ss : List Setting) → ((t : GroupSymbol) → IsGroupSymbol t → t.parent ≡ n → ¬ IsNamed t H) → IsFirstNamed H (flat_map (kept (takes_setting n) (symbols_with n)) ss) None
-  parent_out [] out = tt
-  parent_out (s ∷ ss) out = each_join (λ u. ¬ IsNamed u H) (kept (takes_setting n) (symbols_with n) s) (flat_map (kept (takes_setting n) (symbols_with n)) ss) (piece_out s (takes_setting n s) refl out) (parent_out ss out)
+-- the symbols of a row of other matrices
+pub other_row : (xs : List Operation) (k m n : ℕ) → k < 61 → IsNumberOf (HasForm (In xs)) 64 m → n ≡ (row_of k).matrices → ¬ (n ≡ m) → IsFirstNamed (In xs) (oriented (row_of k)) None
+other_row xs k m n h a e differ = setting_out (In xs) (row_of k).parent r.first r.last (row_of k).setting r.takes out
+  where
+    r : IsRow (row_of k).parent (row_of k).setting (row_of k).matrices
+    r = row_at k h
 
--- fewer matrices than the group
-pub too_few : (xs : List Operation) (n order matrices : ℕ) → BoundsOrder xs matrices → order ≡ order_of n → order < matrices → (t : GroupSymbol) → IsGroupSymbol t → t.parent ≡ n → ¬ IsNamed t (In xs)
-too_few xs n order matrices b e h t i p m = let l : matrices ≤ order_of t.parent = b t i m in let q : order_of t.parent ≡ order = ap order_of p ∙ sym e in absurd (omega (arith, l, q))
+    out : (t : GroupSymbol) → IsGroupSymbol t → t.parent ≡ (row_of k).parent → t.setting ≡ (row_of k).setting → ¬ IsNamed t (In xs)
+    out t i p s named = differ (e ∙ number_same (λ c. is_in (matrices_of t.parent t.setting) c ≡ true) (HasForm (In xs)) 64 (row_of k).matrices m (row_number k t h p s) a same)
+      where
+        same : (c : ℕ) → c < 64 → (is_in (matrices_of t.parent t.setting) c ≡ true) ↔ HasForm (In xs) c
+        same c l =
+            let f = same_matrices t i c l in (
+              λ x. let y = f.0 x in (y.0, (named.1 (operation_at c y.0)).0 y.1),
+              λ x. f.1 (x.0, (named.1 (operation_at c x.0)).1 x.1),
+            )
+
+-- those of a row of the same matrices
+pub same_row : (xs : List Operation) (k m n : ℕ) → k < 61 → IsNumberOf (HasForm (In xs)) 64 m → n ≡ (row_of k).matrices → n ≡ m → HaveForms (row_of k).parent (row_of k).setting (In xs)
+same_row xs k m n h a e same t i p s c l =
+    let b : IsNumberOf (λ x. is_in (matrices_of t.parent t.setting) x ≡ true) 64 m =
+    subst (IsNumberOf (λ x. is_in (matrices_of t.parent t.setting) x ≡ true) 64) (sym e ∙ same) (row_number k t h p s) in
+    let f = same_matrices t i c l in (
+      λ x. number_agrees (λ x. is_in (matrices_of t.parent t.setting) x ≡ true) (HasForm (In xs)) 64 m b a c l (f.1 x),
+      λ x. f.0 (number_agrees (HasForm (In xs)) (λ x. is_in (matrices_of t.parent t.setting) x ≡ true) 64 m a b c l x),
+    )

@@ -1,25 +1,29 @@
 -- The looking up of names.
 --   HoldsAll        each of the operations is an element
---   LacksForm       one of the operations is no element, whatever its mark
 --   IsFirstNamed    the first accepted symbol of a list with the elements of a group, or that there is none
---   order_of        the order of the group of a parent's symbol without primes
---   BoundsOrder     at most the order of the parent of each symbol that names a group
 --   pattern         the symbol of a parent, a setting and a pattern of primes, given by its look-up number
-use Rattle.std.specs.Prelude.{◌≡◌, ℕ, ◌-◌, ◌≤◌, Bool, false, List, [], ◌∷◌, ◌++◌, Option, Some, None, Contains, slice_index}
+--   HasForm         a set of operations has one of the 64 matrices, unprimed or primed
+--   SameForms       two sets have the same matrices
+--   HaveForms       the group of each symbol of a parent in a setting has the matrices of a set
+--   IsNumberOf      the binary digits of a number, the most significant one for 0, tell of which numbers below n a fact
+--                   holds
+--   row_of          a row of the oriented parents, counted from 0
+--   oriented        the symbols of a row
+use Rattle.std.specs.Prelude.{◌≡◌, ℕ, zero, suc, ◌+◌, ◌*◌, ◌<◌, Bool, true, false, cond, List, [], ◌∷◌, ◌++◌, Option, Some, None, Contains, ◌↔◌, IsTrue}
+use Rattle.std.specs.List.{slice_index_or}
 use Rattle.tensor_defs.specs.declared.Setting.{Setting}
+use Rattle.tensor_defs.specs.declared.Setting.TheVariants.{Default}
 use Rattle.tensor_defs.specs.Lists.{Each}
 use Rattle.tensor_defs.specs.Operation.{Operation}
 use Rattle.tensor_defs.specs.Symbols.{GroupSymbol, IsGroupSymbol, operator_count}
-use Rattle.tensor_defs.specs.Names.{IsNamed, turned_bits}
-use Rattle.op_matrix.specs.Table.{marked}
-use Rattle.magnetic_groups.specs.Sets.{In}
-use Rattle.group_names.specs.declared.TheConstants.{ORDERS}
+use Rattle.tensor_defs.specs.Group.{InGroup}
+use Rattle.tensor_defs.specs.Names.{IsNamed, symbols_with, turned_bits}
+use Rattle.op_matrix.specs.Table.{operation_at}
+use Rattle.group_names.specs.declared.oriented.Oriented.{Oriented}
+use Rattle.group_names.specs.declared.oriented.TheConstants.{ORIENTED}
 
 abbrev pub HoldsAll : List Operation → List Operation → Type 0
 HoldsAll xs gs = (g : Operation) → Contains gs g → Contains xs g
-
-abbrev pub LacksForm : List Operation → List Operation → Type 0
-LacksForm xs gs = (g : Operation) × Contains gs g × ((b : Bool) → ¬ Contains xs (marked g b))
 
 abbrev pub IsFirstNamed : (Operation → Type 0) → List GroupSymbol → Option GroupSymbol → Type 0
 IsFirstNamed H ts (Some t) =
@@ -31,8 +35,24 @@ abbrev pub pattern : ℕ → Setting → ℕ → List GroupSymbol
 pattern n s p =
     record { parent = n; primes = turned_bits (operator_count n) p; grey = false; setting = s } ∷ []
 
-unfoldable pub order_of : ℕ → ℕ
-order_of n = slice_index ORDERS (n - 1)
+-- ---- matrices
+abbrev pub HasForm : (Operation → Type 0) → ℕ → Type 0
+HasForm G c = (b : Bool) × G (operation_at c b)
 
-abbrev pub BoundsOrder : List Operation → ℕ → Type 0
-BoundsOrder xs n = (t : GroupSymbol) → IsGroupSymbol t → IsNamed t (In xs) → n ≤ order_of t.parent
+abbrev pub SameForms : (Operation → Type 0) → (Operation → Type 0) → Type 0
+SameForms G H = (c : ℕ) → c < 64 → HasForm G c ↔ HasForm H c
+
+abbrev pub HaveForms : ℕ → Setting → (Operation → Type 0) → Type 0
+HaveForms n s H =
+    (t : GroupSymbol) → IsGroupSymbol t → t.parent ≡ n → t.setting ≡ s → SameForms (InGroup t) H
+
+abbrev pub IsNumberOf : (ℕ → Type 0) → ℕ → ℕ → Type 0
+IsNumberOf P zero m = m ≡ 0
+IsNumberOf P (suc n) m =
+    (h : ℕ) × (b : Bool) × IsNumberOf P n h × (m ≡ 2 * h + cond b 1 0) × (IsTrue b ↔ P n)
+
+unfoldable pub row_of : ℕ → Oriented
+row_of k = slice_index_or ORIENTED k (record { parent = 1; setting = Default; matrices = 0 })
+
+abbrev pub oriented : Oriented → List GroupSymbol
+oriented r = symbols_with r.parent r.setting

@@ -57,7 +57,7 @@ pub fn elements(alloc: Global, g: &Named, out: &mut Vec<u8>) -> Result<(), NoAns
     ensures capacity { vec_capacity out.old ≤ vec_capacity out.new }
 {
     let group = accepted_group(alloc, g)?;
-    match write_elements(alloc, &g.tree, &group, out) {
+    match write_elements(&g.tree, &group, out) {
         Ok(()) => Ok(()),
         Err(_) => Err(NoAnswer::NoMemory),
     }

@@ -51,7 +51,7 @@ fn write_listing(
 {
     write_front("states", g, f, "count", states.count(), out)?;
     append_to(out, b"\n")?;
-    write_numbered(alloc, "state", &Representatives { states }, out)
+    write_numbered("state", &Representatives { states }, out)
 }
 
 /// Appends the states. After `NoMemory`, the only fault, the list is as before.

@@ -12,13 +12,13 @@ pub returns-in-Some : goal.returns-in-Some
 returns-in-Some c =
     let h = below_count c.loop-place.place c.patterns-place-end.result c.operators-operators.result c.args.parent (omega arith) c.patterns-place-end.ensures.is c.operators-operators.ensures.count in
     piece_some (In c.args.group.now) (pattern c.args.parent c.args.setting) (up_to (2 ^ operator_count c.args.parent - 1)) c.loop-place.place (c.loop-place.place + 1) c.in-Some.tree h (at_number (2 ^ operator_count c.args.parent - 1) c.loop-place.place h) c.loop-place.invariant
-    (primed_piece (In c.args.group.now) c.args.parent c.turned_bits-primes.result c.operators-operators.result (c.loop-place.place + 1) c.args.setting (Some c.in-Some.tree) c.turned_bits-primes.ensures.is c.operators-operators.ensures.count (told_at (In c.args.group.now) (symbol_of c.args.parent c.turned_bits-primes.result false c.args.setting ∷ []) c.in_ok-tree.field-0 (Some c.in-Some.tree) c.in-Some.is c.in_ok-tree.ensures))
+    (primed_piece (In c.args.group.now) c.args.parent c.turned_bits-primes.result c.operators-operators.result (c.loop-place.place + 1) c.args.setting (Some c.in-Some.tree) c.turned_bits-primes.ensures.is c.operators-operators.ensures.count (told_at (In c.args.group.now) (symbol_of c.args.parent c.turned_bits-primes.result false c.args.setting ∷ []) c.try_symbol.result (Some c.in-Some.tree) c.in-Some.is c.try_symbol.ensures))
 
 pub loop-place-preserved : goal.loop-place-preserved
 loop-place-preserved c =
     let h = below_count c.loop-place.place c.patterns-place-end.result c.operators-operators.result c.args.parent (omega arith) c.patterns-place-end.ensures.is c.operators-operators.ensures.count in
     piece_none (In c.args.group.now) (pattern c.args.parent c.args.setting) (up_to (2 ^ operator_count c.args.parent - 1)) c.loop-place.place (c.loop-place.place + 1) h (at_number (2 ^ operator_count c.args.parent - 1) c.loop-place.place h) c.loop-place.invariant
-    (primed_piece (In c.args.group.now) c.args.parent c.turned_bits-primes.result c.operators-operators.result (c.loop-place.place + 1) c.args.setting None c.turned_bits-primes.ensures.is c.operators-operators.ensures.count (told_at (In c.args.group.now) (symbol_of c.args.parent c.turned_bits-primes.result false c.args.setting ∷ []) c.in_ok-tree.field-0 None c.in_default.is c.in_ok-tree.ensures))
+    (primed_piece (In c.args.group.now) c.args.parent c.turned_bits-primes.result c.operators-operators.result (c.loop-place.place + 1) c.args.setting None c.turned_bits-primes.ensures.is c.operators-operators.ensures.count (told_at (In c.args.group.now) (symbol_of c.args.parent c.turned_bits-primes.result false c.args.setting ∷ []) c.try_symbol.result None c.in_default.is c.try_symbol.ensures))
 
 pub returns : goal.returns
 returns c = pieces_all (In c.args.group.now) (pattern c.args.parent c.args.setting) (up_to (2 ^ operator_count c.args.parent - 1)) c.loop-place.place (past_count c.loop-place.place c.patterns-place-end.result c.operators-operators.result c.args.parent (omega arith) c.patterns-place-end.ensures.is c.operators-operators.ensures.count) c.loop-place.invariant
