@@ -1,4 +1,5 @@
 pub mod OpLaws
+pub mod OpRowLaws
 pub mod OpIndex
 pub mod StandLaws
 pub mod ReadingLaws

@@ -21,6 +21,7 @@ use Rattle.sign_moves.specs.Moves.{IsKept}
 use Rattle.sign_moves.proofs.SignLaws.{signed-signed}
 use Rattle.tensor_rank.specs.Digits.{digit_of}
 use Rattle.constraint_rows.specs.declared.ops.PlainOp.{PlainOp}
+use Rattle.constraint_rows.proofs.OpLaws.{signs_of-same}
 use Rattle.constraint_rows.specs.PlainOps.{image, entry_sign, signs_of, op_carried, op_sign, StandsFor, StandForAll, op_moves}
 use Rattle.tensor_rank.specs.IndexLaws.{nth, place_below, index_number_at, component_below_at, digit_index, index_of_digits}
 use Rattle.tensor_rank.proofs.ExchangeIndex.{numbered}
@@ -112,10 +113,6 @@ module _ {m : Marks} {g : Operation} {p : PlainOp} (h : StandsFor m g p) where
   signs_of-cons f zero = sym (times_plus (entry_sign p (f 0)))
   signs_of-cons f (suc k) = ap (λ s. times s (entry_sign p (f (suc k)))) (signs_of-cons f k) ∙ times-times (entry_sign p (f 0)) (signs_of p (λ q. f (suc q)) k) (entry_sign p (f (suc k)))
 
-  signs_of-same : (f f' : ℕ → ℕ) (k : ℕ) → ((q : ℕ) → q < k → f q ≡ f' q) → signs_of p f k ≡ signs_of p f' k
-  signs_of-same f f' zero e = refl
-  signs_of-same f f' (suc k) e = λ i. times (signs_of-same f f' k (λ q l. e q (omega arith)) i) (entry_sign p (e k (omega arith) i))
-
   list_signs_of : (is : Index) → list_signs p is ≡ signs_of p (λ q. axis_place (nth is q)) (length is)
   list_signs_of [] = refl
   list_signs_of (i ∷ is) = ap (times (entry_sign p (axis_place i))) (list_signs_of is) ∙ sym (signs_of-cons (λ q. axis_place (nth (i ∷ is) q)) (length is))
@@ -123,7 +120,7 @@ module _ {m : Marks} {g : Operation} {p : PlainOp} (h : StandsFor m g p) where
   pub sign_number : (r c : ℕ) → c < 3 ^ r → times p.whole (list_signs p (index_of r c)) ≡ op_sign r p c
   sign_number r c below = ap (times p.whole) (
       list_signs_of (index_of r c) ∙ ap (signs_of p (λ q. axis_place (nth (index_of r c) q))) (length-index_of r c)
-      ∙ signs_of-same (λ q. axis_place (nth (index_of r c) q)) (digit_of r c) r (λ q l. sym (digit_index r c below q l)))
+      ∙ signs_of-same p (λ q. axis_place (nth (index_of r c) q)) (digit_of r c) r (λ q l. sym (digit_index r c below q l)))
 
   -- the action at a component has one term
   pub act_number : (r c : ℕ) (t : Tensor) → c < 3 ^ r → act m g t (index_of r c) ≡ signed (op_sign r p c) (numbered r t (op_carried r p c))

@@ -1,5 +1,5 @@
 -- A signed permutation matrix is undone by its inverse.
---   ops_reversible, images_small, signs_more, permutation_told
+--   ops_reversible, images_small, signs_more, signs_of-same, permutation_told
 --       six turns of a permutation of three columns lead back
 use Rattle.std.proofs.Common.{◌≡◌, ℕ, ◌+◌, ◌<◌, ◌≤◌, ◌^◌, List, length, zero, suc, arith, ap, sym, ◌∙◌, refl, subst, lit<, ◌⊎◌, inl, inr, ◌≢◌}
 use Rattle.tensor_rank.proofs.ExchangeLaws.{digit_below, power_small}
@@ -136,6 +136,10 @@ images_small r k c op h few =
     let below : number_of k (λ p. image op (digit_of r c p)) < 3 ^ k = number_of-below k (λ p. image op (digit_of r c p)) (λ p _. h.small (digit_of r c p) (digit_below r c p)) in
     let small : 3 ^ k ≤ 729 = power_small k few in
     omega arith
+
+pub signs_of-same : (op : PlainOp) (f f' : ℕ → ℕ) (k : ℕ) → ((q : ℕ) → q < k → f q ≡ f' q) → signs_of op f k ≡ signs_of op f' k
+signs_of-same op f f' zero e = refl
+signs_of-same op f f' (suc k) e = λ i. times (signs_of-same op f f' k (λ q l. e q (omega arith)) i) (entry_sign op (e k (omega arith) i))
 
 pub signs_more : (k : ℕ) (op : PlainOp) (digit : ℕ → ℕ) (s t : Sign) → s ≡ signs_of op digit k → t ≡ entry_sign op (digit k) → times s t ≡ signs_of op digit (k + 1)
 signs_more k op digit s t e h =

@@ -1,4 +1,5 @@
 pub mod PlainOps
+pub mod OpRows
 pub mod Reading
 pub mod Classes
 pub mod WordRows

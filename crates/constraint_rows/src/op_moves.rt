@@ -3,7 +3,8 @@ ghost use Rattle.std.specs.Prelude.{◌≡◌};
 ghost use Rattle.constraint_rows.specs.PlainOps.{ArePermutations};
 
 use crate::ops::PlainOp;
-use sign_moves::{Moves, Sign};
+use sign_moves::{Moves, NoMemory, Sign, Step};
+use std::alloc::Global;
 use std::marker::PhantomData;
 use tensor_rank::{Comp, Rank};
 
@@ -45,5 +46,9 @@ impl<'a, R: Rank> Moves for OpMoves<'a, R> {
     fn carry(&self, place: usize, c: usize) -> (usize, Sign) {
         let (carried, sign) = self.ops[place].carry(Comp::<R>::at(c));
         (carried.number() as usize, sign)
+    }
+
+    fn row(&self, alloc: Global, place: usize) -> Result<Vec<Step>, NoMemory> {
+        self.ops[place].row::<R>(alloc)
     }
 }

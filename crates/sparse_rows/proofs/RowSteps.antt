@@ -38,7 +38,7 @@ row-drop [] (suc i) r = tt
 row-drop (x ∷ xs) (suc i) r = row-drop xs i r.2
 
 -- ---- looking for an unknown
-coeff-empty : (xs : List Entry) (u : ℕ) → length xs ≡ 0 → coeff xs u ≡ num_zero
+pub coeff-empty : (xs : List Entry) (u : ℕ) → length xs ≡ 0 → coeff xs u ≡ num_zero
 coeff-empty [] u h = refl
 coeff-empty (x ∷ xs) u h = absurd (omega (arith, h))
 

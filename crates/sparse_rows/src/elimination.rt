@@ -17,7 +17,8 @@ fn keep(alloc: Global, kept: Vec<KeptRow>, left: &[Entry]) -> Result<Vec<KeptRow
     ensures grows { IfErr result (λ e. e ≡ EliminateFault.TooLarge → CannotKeep (kepts kept.items) (coeff left.now)) }
 {
     let new = scale(alloc, left)?;
-    let mut next = clear_all(alloc, kept, &new)?;
+    let mut next = kept;
+    clear_all(alloc, &mut next, &new)?;
     put_row(&mut next, new)?;
     Ok(next)
 }

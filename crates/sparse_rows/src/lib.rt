@@ -3,6 +3,7 @@
 
 mod elimination;
 mod entry;
+mod marks;
 mod merge;
 mod solution;
 mod steps;

@@ -73,6 +73,17 @@ fn difference(a: &Entry, factor: &Frac, b: &Entry) -> Result<Option<Entry>, Elim
     }))
 }
 
+/// No entries, and room for this many.
+fn room_for(alloc: Global, count: usize) -> Result<Vec<Entry>, EliminateFault>
+    ensures empty { IfOk result (λ v. v.items ≡ []) }
+    ensures full { IfErr result (λ e. e ≡ EliminateFault.NoMemory) }
+{
+    match Vec::with_capacity(alloc, count) {
+        Ok(room) => Ok(room),
+        Err(_) => Err(EliminateFault::NoMemory),
+    }
+}
+
 /// The row minus the factor times the other row.
 pub fn subtract(
     alloc: Global,
@@ -86,7 +97,7 @@ pub fn subtract(
     ensures difference { IfOk result (λ v. IsDifference (coeff row.now) (value_of factor.now) (coeff other.now) v.items) }
     ensures grows { IfErr result (λ e. e ≡ EliminateFault.TooLarge → TimesGrows (coeff row.now) (value_of factor.now) (coeff other.now)) }
 {
-    let mut out = Vec::new(alloc);
+    let mut out = room_for(alloc, row.len() + other.len())?;
     let mut i = 0;
     let mut j = 0;
     while i < row.len() || j < other.len() {

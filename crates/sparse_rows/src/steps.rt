@@ -1,5 +1,5 @@
 //! The steps of the elimination.
-ghost use Rattle.std.specs.Prelude.{◌≡◌, ◌≢◌, ◌<◌, IfOk, OnOk, IfErr, ◌++◌, [], ◌∷◌, length};
+ghost use Rattle.std.specs.Prelude.{◌≡◌, ◌≢◌, ◌<◌, IfOk, OnOk, IfErr, IsTrue, ◌++◌, [], ◌∷◌, length};
 ghost use Rattle.tensor_defs.specs.Number.{mul, num_zero, ReachesLimit, value_of};
 ghost use Rattle.tensor_defs.specs.Elimination.{ReducingGrows, ClearingGrows, LessGrows};
 ghost use Rattle.exact_frac.specs.Held.{inverse_of, IsHeldAs};
@@ -7,15 +7,34 @@ ghost use Rattle.sparse_rows.specs.Rows.{coeff, IsRow};
 ghost use Rattle.sparse_rows.specs.KeptRows.{kept_of, kepts, AreRows, IsFound, IsReducedRow, IsScaledRow, CannotScale, IsClearedRow, AreCleared};
 
 use crate::entry::{EliminateFault, Entry, KeptRow};
+use crate::marks::{is_marked, mark_all};
 use crate::merge::{put, subtract};
 use exact_frac::Frac;
 use std::alloc::Global;
 
-/// The fraction at an unknown, by halves.
+/// Whether a row is 0 at an unknown, as its first and its last unknown tell.
+fn is_outside(row: &[Entry], at: usize) -> bool
+    requires { IsRow row.now }
+    ensures { IsTrue result → coeff row.now at ≡ num_zero }
+{
+    let count = row.len();
+    if count == 0 {
+        return true;
+    }
+    if at < row[0].unknown {
+        return true;
+    }
+    row[count - 1].unknown < at
+}
+
+/// The fraction at an unknown: none outside the row, else by halves.
 pub fn find(row: &[Entry], at: usize) -> Option<Frac>
     requires { IsRow row.now }
     ensures { IsFound (coeff row.now at) result }
 {
+    if is_outside(row, at) {
+        return None;
+    }
     let mut low = 0;
     let mut high = row.len();
     while low < high {
@@ -44,7 +63,7 @@ pub fn copied(alloc: Global, row: &[Entry]) -> Result<Vec<Entry>, EliminateFault
     }
 }
 
-/// The row, less what each kept row takes away.
+/// The row, less what each kept row takes away. Only those are looked at whose pivot the row may have.
 pub fn reduce_row(
     alloc: Global,
     row: &[Entry],
@@ -56,9 +75,14 @@ pub fn reduce_row(
     ensures grows { IfErr result (λ e. e ≡ EliminateFault.TooLarge → ReducingGrows (kepts kept.now) (coeff row.now)) }
 {
     let mut left = copied(alloc, row)?;
+    let mut marks = [false; 1024];
+    mark_all(&mut marks, row);
     for k in kept {
-        if let Some(factor) = find(&left, k.pivot) {
-            left = subtract(alloc, &left, &factor, &k.entries)?;
+        if is_marked(&marks, k.pivot) {
+            if let Some(factor) = find(&left, k.pivot) {
+                left = subtract(alloc, &left, &factor, &k.entries)?;
+                mark_all(&mut marks, &k.entries);
+            }
         }
     }
     Ok(left)
@@ -102,22 +126,16 @@ pub fn scale(alloc: Global, row: &[Entry]) -> Result<KeptRow, EliminateFault>
 }
 
 /// A kept row, less what the new row takes away.
-fn clear_one(alloc: Global, old: KeptRow, new: &KeptRow) -> Result<KeptRow, EliminateFault>
-    requires old { IsRow old.entries.items }
+fn clear_one(alloc: Global, row: &mut KeptRow, new: &KeptRow) -> Result<(), EliminateFault>
+    requires row { IsRow row.old.entries.items }
     requires new { IsRow new.now.entries.items }
-    ensures cleared { IfOk result (λ k. IsClearedRow (kept_of new.now) (kept_of old) k) }
-    ensures grows { IfErr result (λ e. e ≡ EliminateFault.TooLarge → LessGrows (coeff old.entries.items) (kept_of new.now)) }
+    ensures cleared { OnOk result (IsClearedRow (kept_of new.now) (kept_of row.old) row.new) }
+    ensures grows { IfErr result (λ e. e ≡ EliminateFault.TooLarge → LessGrows (coeff row.old.entries.items) (kept_of new.now)) }
 {
-    match find(&old.entries, new.pivot) {
-        None => Ok(old),
-        Some(factor) => {
-            let entries = subtract(alloc, &old.entries, &factor, &new.entries)?;
-            Ok(KeptRow {
-                pivot: old.pivot,
-                entries,
-            })
-        }
+    if let Some(factor) = find(&row.entries, new.pivot) {
+        row.entries = subtract(alloc, &row.entries, &factor, &new.entries)?;
     }
+    Ok(())
 }
 
 /// One more kept row.
@@ -131,21 +149,20 @@ pub fn put_row(out: &mut Vec<KeptRow>, row: KeptRow) -> Result<(), EliminateFaul
     }
 }
 
-/// All kept rows, less what the new row takes away. Those that don't change are moved.
+/// All kept rows, less what the new row takes away. After an error some may be changed.
 pub fn clear_all(
     alloc: Global,
-    kept: Vec<KeptRow>,
+    kept: &mut Vec<KeptRow>,
     new: &KeptRow,
-) -> Result<Vec<KeptRow>, EliminateFault>
-    requires kept { AreRows kept.items }
+) -> Result<(), EliminateFault>
+    requires kept { AreRows kept.old.items }
     requires new { IsRow new.now.entries.items }
-    ensures cleared { IfOk result (λ v. AreCleared (kept_of new.now) (kepts kept.items) v.items) }
-    ensures grows { IfErr result (λ e. e ≡ EliminateFault.TooLarge → ClearingGrows (kept_of new.now) (kepts kept.items)) }
+    ensures cleared { OnOk result (AreCleared (kept_of new.now) (kepts kept.old.items) kept.new.items) }
+    ensures grows { IfErr result (λ e. e ≡ EliminateFault.TooLarge → ClearingGrows (kept_of new.now) (kepts kept.old.items)) }
 {
-    let mut out = Vec::new(alloc);
-    for old in kept {
-        let row = clear_one(alloc, old, new)?;
-        put_row(&mut out, row)?;
+    for place in 0..kept.len() {
+        let row = &mut kept[place];
+        clear_one(alloc, row, new)?;
     }
-    Ok(out)
+    Ok(())
 }

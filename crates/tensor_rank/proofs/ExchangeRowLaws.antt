@@ -1,4 +1,6 @@
 -- The digits of a component make up where an exchange carries it.
+--   digit_front, digit_last    the digits of a component with one more
+--   exchange_row, front_small_parts, front_row    the steps of an exchange
 use Rattle.std.proofs.Common.{◌≡◌, ◌≢◌, ℕ, ◌+◌, ◌-◌, ◌*◌, ◌/◌, ◌%◌, ◌^◌, ◌<◌, ◌≤◌, cond, List, [], ◌∷◌, zero, suc, length, get_or, arith, ap, sym, ◌∙◌, refl, subst, inl, inr}
 use Rattle.std.specs.Prelude.{nat_lt}
 use Rattle.std.proofs.lemmas.Bool.{cases_lt, lt-ltb, le-ltb}
@@ -63,14 +65,14 @@ front_past : (k c q : ℕ) → k ≤ q → front_digit k c q ≡ 0
 unfolding front_digit
 front_past k c q h = ap (λ t. cond t (digit_of k c q) 0) (le-ltb q k h)
 
-digit_front : (k c q : ℕ) → q < k → digit_of (suc k) c q ≡ digit_of k (c / 3) q
+pub digit_front : (k c q : ℕ) → q < k → digit_of (suc k) c q ≡ digit_of k (c / 3) q
 digit_front k c q h =
     let place : suc k - 1 - q ≡ suc (k - 1 - q) = omega arith in
     ap (λ j. c / 3 ^ j % 3) place
     ∙ ap (λ w. c / w % 3) (pow-succ' 3 (k - 1 - q))
     ∙ ap (λ x. x % 3) (sym (div-div-eq-div-mul c 3 (3 ^ (k - 1 - q))))
 
-digit_last : (k c : ℕ) → digit_of (suc k) c k ≡ c % 3
+pub digit_last : (k c : ℕ) → digit_of (suc k) c k ≡ c % 3
 digit_last k c =
     let place : suc k - 1 - k ≡ 0 = omega arith in
     ap (λ j. c / 3 ^ j % 3) place ∙ ap (λ x. x % 3) (div-one c)

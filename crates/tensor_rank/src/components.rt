@@ -8,7 +8,7 @@ use crate::ranks::Rank;
 use std::marker::{Model, PhantomData};
 
 /// The powers of 3 below 3 ^ 6.
-pub(crate) const POWERS: [u16; 6] = [1, 3, 9, 27, 81, 243];
+pub const POWERS: [u16; 6] = [1, 3, 9, 27, 81, 243];
 
 /// A component of a tensor of rank R, by its number in index order, from 0: the first index is the most significant,
 /// and an index digit d stands for d - 1.

@@ -11,7 +11,7 @@ mod ranks;
 mod shapes;
 mod symbols;
 
-pub use components::Comp;
+pub use components::{Comp, POWERS};
 pub use exchanges::{Exchange, ExchangeMoves};
 pub use flags::Flags;
 pub use laws::orders_are_orders;

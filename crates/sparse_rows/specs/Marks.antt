@@ -1,0 +1,15 @@
+-- Marks of unknowns by their remainders.
+--   is_marked    whether an unknown is marked, or one with the same remainder
+--   AreMarked    nothing that was marked is unmarked, and a row is 0 at each unknown that isn't marked
+use Rattle.std.specs.Prelude.{◌≡◌, ℕ, ◌%◌, Bool, false, List, get_or, length}
+use Rattle.tensor_defs.specs.Number.{num_zero}
+use Rattle.sparse_rows.specs.Rows.{coeff}
+use Rattle.sparse_rows.specs.declared.entry.Entry.{Entry}
+
+abbrev pub is_marked : List Bool → ℕ → Bool
+is_marked marks u = get_or marks (u % 1024) false
+
+pub record AreMarked (old : List Bool) (row : List Entry) (new : List Bool) : Type 0 where
+  pub len : length new ≡ length old
+  pub kept : (u : ℕ) → is_marked new u ≡ false → is_marked old u ≡ false
+  pub zero : (u : ℕ) → is_marked new u ≡ false → coeff row u ≡ num_zero

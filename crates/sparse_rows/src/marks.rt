@@ -1,0 +1,24 @@
+//! Marks of the unknowns that a row may have, by their remainders.
+ghost use Rattle.std.specs.Prelude.{◌≡◌, length};
+ghost use Rattle.sparse_rows.specs.Rows.{IsRow};
+ghost use Rattle.sparse_rows.specs.Marks.{AreMarked, is_marked};
+
+use crate::entry::Entry;
+
+/// Marks each unknown of a row.
+pub fn mark_all(marks: &mut [bool], row: &[Entry])
+    requires { length marks.old ≡ 1024 }
+    ensures { AreMarked marks.old row.now marks.new }
+{
+    for entry in row {
+        marks[entry.unknown % 1024] = true;
+    }
+}
+
+/// Whether an unknown is marked, or one with the same remainder.
+pub fn is_marked(marks: &[bool], unknown: usize) -> bool
+    requires { length marks.now ≡ 1024 }
+    ensures { result ≡ is_marked marks.now unknown }
+{
+    marks[unknown % 1024]
+}
