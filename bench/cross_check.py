@@ -17,6 +17,7 @@ It ends with status 1 where an answer differs.
 """
 import math
 import pathlib
+import re
 import subprocess
 import sys
 
