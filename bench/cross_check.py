@@ -10,13 +10,14 @@ Use: bench/cross_check.py, after ./tensors was built. It reads the elements of t
   as left cosets and the pair classes as double cosets, by trying all elements; the group of each name;
 - for the Voigt tables of the six symbols that have one, with two choices of marks and both letters, under the types: the
   free entries, and each entry at each basis tensor, from the invariant tensors as the range of the mean over all
-  elements. Where the program doesn't answer `voigt` yet it says so.
+  elements;
 - for one in eleven of the pairs of a type and a subgroup: the components that tell the states apart with their values, from
   the table of the subgroup and the matrix of each state.
 It ends with status 1 where an answer differs.
 """
 import math
 import pathlib
+import re
 import subprocess
 import sys
 
@@ -362,9 +363,7 @@ def same_voigt(lines, expected_table):
 
 
 def voigt_tables(groups):
-    """The Voigt tables that are others than counted apart; none where the program doesn't answer them."""
-    if answers(["voigt 1 [V2] c"])[0].startswith("error"):
-        return 0, []
+    """The Voigt tables that are others than counted apart."""
     requests = [
         (symbol, marks, word, letter)
         for symbol in groups
@@ -474,10 +473,9 @@ def main():
     named.update({symbol: elements(symbol) for symbol in SETTINGS})
     pairs, subgroups, wrong_pairs = transitions(named)
     print(f"{pairs} pairs of groups, {subgroups} with a subgroup, {len(wrong_pairs)} answered otherwise", *wrong_pairs[:5])
-    return 1 if wrong_tables or changed or wrong_voigts or wrong_pairs else 0
     asked, wrong_rows = distinctions(named)
     print(f"{asked} requests for distinguishing components, {len(wrong_rows)} answered otherwise", *wrong_rows[:5])
-    return 1 if wrong_tables or changed or wrong_pairs or wrong_rows else 0
+    return 1 if wrong_tables or changed or wrong_voigts or wrong_pairs or wrong_rows else 0
 
 
 if __name__ == "__main__":

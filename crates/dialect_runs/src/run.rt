@@ -1,5 +1,5 @@
 //! The top call.
-ghost use Rattle.std.specs.Prelude.{◌≡◌, ◌≤◌, map, string_bytes, IfOk, MatchOption};
+ghost use Rattle.std.specs.Prelude.{◌≡◌, ◌≢◌, map, string_bytes, IfOk, MatchOption};
 ghost use Rattle.tensor_ports.specs.Causes.{Rose};
 ghost use Rattle.tool_runs.specs.Tools.{Leaves, refusal_text};
 ghost use Rattle.dialect_runs.specs.DialectRuns.{AsksFor, HasForm, IsDialectRun};
@@ -69,7 +69,9 @@ fn reply(alloc: Global, words: &[String]) -> Result<(Kind, Vec<u8>), NoMemory>
 pub fn run_dialect<O: Sink>(alloc: Global, words: &[String], sink: &mut O) -> ToolEnd
     ensures leaves { Leaves (IsDialectRun (map string_bytes words.now)) result (O.written sink.old) (O.written sink.new) }
     ensures cause { result ≡ ToolEnd.WriteFault → Rose (O.faults sink.old) (O.faults sink.new) }
-    ensures later { O.faults sink.old ≤ O.faults sink.new }
+
+    // No fault is passed over.
+    ensures calm { result ≢ ToolEnd.WriteFault → O.faults sink.new ≡ O.faults sink.old }
 {
     match reply(alloc, words) {
         Ok((kind, text)) => write_text(kind, text.as_slice(), sink),

@@ -2,7 +2,7 @@
 --   first_unaccepted, second_unaccepted    a group that isn't accepted
 --   rank_stop, in_rank_memory, first_large, none_over, ranks_stop    a tensor, or the first of a list, of a rank above 6
 --   large_stop, one_large, states_stop    what comes behind accepted groups and tensors within rank
---   tensor_told, over_told    the symbol of a word that was read, or that its rank is above 6
+--   tensor_told, spelled_told    the symbol of a word that was read, or a fact of the symbol that it spells
 use Rattle.std.proofs.Common.{◌≡◌, inl, inr, ℕ, ◌+◌, ◌-◌, take, drop, ◌<◌, ◌≤◌, List, [], ◌∷◌, refl, arith, sym, ap, subst}
 use Rattle.std.specs.Prelude.{IfOk, OnOk, Ok, Err}
 use Rattle.std.specs.declared.result.Result.{Result}
@@ -103,15 +103,14 @@ pub tensor_told : (line : List ℕ) (j : Span) (tree : Jahn) (b : JahnAt) →
 tensor_told line j tree b read t =
     λ i. record { jahn = one_jahn _ b.jahn (symbol_of tree) t.spells read.0 i; column = t.column i }
 
-pub over_told : (line : List ℕ) (j : Span) (b : JahnAt) →
-    (k : JahnSymbol) × SpellsJahn (take (j.end - j.start) (drop j.start line)) k × (6 < rank k) → TellsJahn line j b →
-    6 < rank b.jahn
-over_told line j b read t = subst (λ k. 6 < rank k) (one_jahn _ read.0 b.jahn read.1 t.spells) read.2
+pub spelled_told : (P : JahnSymbol → Type 0) (line : List ℕ) (j : Span) (b : JahnAt) →
+    (k : JahnSymbol) × SpellsJahn (take (j.end - j.start) (drop j.start line)) k × P k → TellsJahn line j b → P b.jahn
+spelled_told P line j b read t = subst P (one_jahn _ read.0 b.jahn read.1 t.spells) read.2
 
 pub known_told : (line : List ℕ) (j : Span) (b : JahnAt) (n : ℕ) →
     (k : JahnSymbol) × SpellsJahn (take (j.end - j.start) (drop j.start line)) k × ((n ≡ rank k) × (rank k ≤ 6)) → TellsJahn line j b →
     rank b.jahn ≤ 6
-known_told line j b n read t = subst (λ k. rank k ≤ 6) (one_jahn _ read.0 b.jahn read.1 t.spells) read.2.1
+known_told line j b n read t = spelled_told (λ k. rank k ≤ 6) line j b (read.0, read.1, read.2.1) t
 
 pub if_ok_on : {T E : Type 0} {P : T → Type 0} {Q : Type 0} (r : Result T E) → ((x : T) → P x → Q) → IfOk r P → OnOk r Q
 if_ok_on (Ok x) given p = given x p

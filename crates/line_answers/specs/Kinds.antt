@@ -7,7 +7,7 @@
 --   IsStop          the refusal is the first that applies to the request; want of memory is free
 --   IsStateStop     what becomes of states that can't be given
 --   IsGroupStop     the refusal of a group, for each request that begins with such groups
---   IsOverRank      why a tensor is refused
+--   IsOverRank      why a tensor isn't read: its rank is above 6, or memory was refused at one within rank
 --   IsShortList, IsTold    a list of at most eight Jahn words, and a fact of these words
 --   IsFirstStop     the refusal stands at the first of some Jahn words of which a fact holds
 --   IsTooLarge      the refusal stands at a Jahn word whose numbers grow too large
@@ -90,4 +90,4 @@ IsGroupStop gs e = (q : Request) (more : List GroupAt) → groups_of q ≡ map g
 abbrev pub IsOverRank : List ℕ → Span → NoAnswer → Type 0
 IsOverRank line j (Refused r) =
     (r ≡ record { word = Rank; column = j.start + 1 }) × ((b : JahnAt) → TellsJahn line j b → 6 < rank b.jahn)
-IsOverRank line j NoMemory = Unit {0}
+IsOverRank line j NoMemory = (b : JahnAt) → TellsJahn line j b → rank b.jahn ≤ 6

@@ -47,7 +47,7 @@ pub fn accepted_groups(alloc: Global, g: &Named, h: &Named) -> Result<(Group, Gr
     }
 }
 
-/// The tensor of a word that is a Jahn symbol.
+/// The tensor of a word that is a Jahn symbol. `NoMemory` comes only at a rank up to 6.
 pub fn tensor_in_rank(alloc: Global, line: &[u8], span: Span) -> Result<Jahn, NoAnswer>
     requires short { length line.now ≤ 4000 }
     requires told { (b : JahnAt) × TellsJahn line.now span b }

@@ -2,10 +2,8 @@
 --   status_of       the exit status of an outcome
 --   outcome_at      the outcome of a run that came to the end of the input, and whether a line was refused, or of one
 --                   that stopped before
---   CameThrough     the run was stopped by no fault and not for want of memory
---   NothingFailed   where a run came through, the counts of faults of source and sink are as before
 -- Source: this project's own.
-use Rattle.std.specs.Prelude.{◌≡◌, ℕ, Bool, true, false, Ok, Err}
+use Rattle.std.specs.Prelude.{ℕ, Bool, true, false, Ok, Err}
 use Rattle.std.specs.declared.result.Result.{Result}
 use Rattle.line_runs.specs.declared.outcome.Outcome.{Outcome}
 use Rattle.line_runs.specs.declared.outcome.Outcome.TheVariants.{Answered, SomeRefused, Usage, ReadFault}
@@ -29,12 +27,3 @@ outcome_at (Err Memory) = NoMemory
 outcome_at (Err Read) = ReadFault
 outcome_at (Err Write) = WriteFault
 outcome_at (Err Limit) = InputLimit
-
-abbrev pub CameThrough : Outcome → Type 0
-CameThrough Answered = Unit {0}
-CameThrough SomeRefused = Unit {0}
-CameThrough InputLimit = Unit {0}
-CameThrough _ = ⊥
-
-abbrev pub NothingFailed : Result Bool Stop → ℕ → ℕ → ℕ → ℕ → Type 0
-NothingFailed ended reads reads' writes writes' = CameThrough (outcome_at ended) → (reads' ≡ reads) × (writes' ≡ writes)

@@ -4,7 +4,7 @@ ghost use Rattle.std.specs.Option.{IfSome};
 ghost use Rattle.tensor_ports.specs.Bytes.{Grows};
 ghost use Rattle.tensor_ports.specs.Causes.{Rose};
 ghost use Rattle.line_runs.specs.Reads.{Stands};
-ghost use Rattle.line_runs.specs.Outcomes.{CameThrough, NothingFailed, outcome_at};
+ghost use Rattle.line_runs.specs.Outcomes.{outcome_at};
 ghost use Rattle.text_defs.specs.Answers.{IsAnswer};
 ghost use Rattle.text_defs.specs.Refusals.{IsRefused};
 ghost use Rattle.line_runs.specs.Stops.{StopsAt};
@@ -68,7 +68,8 @@ fn answer_all<A: AnswersLines, I: Source, O: Sink>(
         Leaves limit (outcome_at result) input (I.left source.new) (O.written sink.old) (O.written sink.new)) }
     ensures read { IsErrOf result Stop.Read → Rose (I.faults source.old) (I.faults source.new) }
     ensures write { IsErrOf result Stop.Write → Rose (O.faults sink.old) (O.faults sink.new) }
-    ensures calm { NothingFailed result (I.faults source.old) (I.faults source.new) (O.faults sink.old) (O.faults sink.new) }
+    ensures read_calm { (IsErrOf result Stop.Read → ⊥) → I.faults source.new ≡ I.faults source.old }
+    ensures write_calm { (IsErrOf result Stop.Write → ⊥) → O.faults sink.new ≡ O.faults sink.old }
 {
     let Ok(mut buffer) = LineBuffer::new(alloc) else {
         return Err(Stop::Memory);
@@ -132,8 +133,9 @@ pub fn run_within<A: AnswersLines, I: Source, O: Sink>(
     ensures write_cause { result ≡ Outcome.WriteFault → Rose (O.faults sink.old) (O.faults sink.new) }
     ensures no_usage { result ≡ Outcome.Usage → ⊥ }
 
-    // No fault is passed over.
-    ensures calm { CameThrough result → (I.faults source.new ≡ I.faults source.old) × (O.faults sink.new ≡ O.faults sink.old) }
+    // No fault is passed over: a count rises only by the fault that ends the run.
+    ensures read_calm { (result ≡ Outcome.ReadFault → ⊥) → I.faults source.new ≡ I.faults source.old }
+    ensures write_calm { (result ≡ Outcome.WriteFault → ⊥) → O.faults sink.new ≡ O.faults sink.old }
 
     // Where nothing failed, it is one of the answers, or the limit, or want of memory.
     ensures complete { (Rose (I.faults source.old) (I.faults source.new) → ⊥) → (Rose (O.faults sink.old) (O.faults sink.new) → ⊥)

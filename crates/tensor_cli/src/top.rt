@@ -2,7 +2,6 @@
 ghost use Rattle.std.specs.Prelude.{◌≡◌, ◌≤◌, []};
 ghost use Rattle.std.specs.Option.{IfSome};
 ghost use Rattle.tensor_ports.specs.Causes.{Rose};
-ghost use Rattle.line_runs.specs.Outcomes.{CameThrough};
 ghost use Rattle.line_runs.specs.Runs.{Leaves, IsComplete};
 
 use line_answers::Answers;
@@ -29,8 +28,9 @@ pub fn run_within<I: Source, O: Sink>(
     ensures write_cause { result ≡ Outcome.WriteFault → Rose (O.faults sink.old) (O.faults sink.new) }
     ensures no_usage { result ≡ Outcome.Usage → ⊥ }
 
-    // No fault is passed over.
-    ensures calm { CameThrough result → (I.faults source.new ≡ I.faults source.old) × (O.faults sink.new ≡ O.faults sink.old) }
+    // No fault is passed over: a count rises only by the fault that ends the run.
+    ensures read_calm { (result ≡ Outcome.ReadFault → ⊥) → I.faults source.new ≡ I.faults source.old }
+    ensures write_calm { (result ≡ Outcome.WriteFault → ⊥) → O.faults sink.new ≡ O.faults sink.old }
 
     // Where nothing failed, it is one of the answers, or the limit, or want of memory.
     ensures complete { (Rose (I.faults source.old) (I.faults source.new) → ⊥) → (Rose (O.faults sink.old) (O.faults sink.new) → ⊥)
@@ -55,8 +55,9 @@ pub fn run<I: Source, O: Sink>(
     ensures write_cause { result ≡ Outcome.WriteFault → Rose (O.faults sink.old) (O.faults sink.new) }
     ensures no_usage { words.now ≡ [] → result ≡ Outcome.Usage → ⊥ }
 
-    // No fault is passed over.
-    ensures calm { CameThrough result → (I.faults source.new ≡ I.faults source.old) × (O.faults sink.new ≡ O.faults sink.old) }
+    // No fault is passed over: a count rises only by the fault that ends the run.
+    ensures read_calm { (result ≡ Outcome.ReadFault → ⊥) → I.faults source.new ≡ I.faults source.old }
+    ensures write_calm { (result ≡ Outcome.WriteFault → ⊥) → O.faults sink.new ≡ O.faults sink.old }
 
     // Where nothing failed, it is one of the answers, or the limit, or want of memory.
     ensures complete { words.now ≡ [] → (Rose (I.faults source.old) (I.faults source.new) → ⊥) → (Rose (O.faults sink.old) (O.faults sink.new) → ⊥)

@@ -1,5 +1,5 @@
 //! The text of a run, written.
-ghost use Rattle.std.specs.Prelude.{◌≡◌, ◌≤◌};
+ghost use Rattle.std.specs.Prelude.{◌≡◌, ◌≢◌};
 ghost use Rattle.tensor_ports.specs.Causes.{Rose};
 ghost use Rattle.tool_runs.specs.Tools.{Ends};
 
@@ -17,7 +17,9 @@ pub enum Kind {
 pub fn write_text<O: Sink>(kind: Kind, text: &[u8], sink: &mut O) -> ToolEnd
     ensures ends { Ends result kind text.now (O.written sink.old) (O.written sink.new) }
     ensures cause { result ≡ ToolEnd.WriteFault → Rose (O.faults sink.old) (O.faults sink.new) }
-    ensures later { O.faults sink.old ≤ O.faults sink.new }
+
+    // No fault is passed over.
+    ensures calm { result ≢ ToolEnd.WriteFault → O.faults sink.new ≡ O.faults sink.old }
 {
     match write_all_of(sink, text) {
         Ok(()) => match kind {

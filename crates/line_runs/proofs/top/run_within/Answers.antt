@@ -1,5 +1,6 @@
-use Rattle.std.proofs.Common.{sym, ◌∙◌, subst}
+use Rattle.std.proofs.Common.{sym, ◌∙◌, ap, subst}
 use Rattle.std.specs.Option.{IfSome}
+use Rattle.line_runs.specs.Outcomes.{outcome_at}
 use Rattle.line_runs.specs.Runs.{Leaves}
 use Rattle.line_runs.specs.declared.outcome.Outcome.{Outcome}
 use Rattle.line_runs.proofs.Exits.{complete, read_fault, write_fault, never_usage}
@@ -19,6 +20,12 @@ returns-clause-write_cause g c = λ is. c.answer_all.ensures.write (write_fault 
 
 pub returns-clause-no_usage : goal.returns-clause-no_usage
 returns-clause-no_usage g c = λ is. never_usage c.answer_all.result (sym c.outcome_of.ensures ∙ is)
+
+pub returns-clause-read_calm : goal.returns-clause-read_calm
+returns-clause-read_calm g c = λ no. c.answer_all.ensures.read_calm (λ is. no (c.outcome_of.ensures ∙ ap outcome_at is))
+
+pub returns-clause-write_calm : goal.returns-clause-write_calm
+returns-clause-write_calm g c = λ no. c.answer_all.ensures.write_calm (λ is. no (c.outcome_of.ensures ∙ ap outcome_at is))
 
 pub returns-clause-complete : goal.returns-clause-complete
 returns-clause-complete g c = λ read write. complete _ c.args.limit c.outcome_of.result c.answer_all.result c.outcome_of.ensures _ _ _ (λ is. read (c.answer_all.ensures.read is)) (λ is. write (c.answer_all.ensures.write is)) c.answer_all.ensures.leaves
