@@ -1,0 +1,3 @@
+pub mod Symmetric
+pub mod Kept
+pub mod Judged

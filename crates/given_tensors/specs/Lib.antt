@@ -1,0 +1,5 @@
+pub mod Lists
+pub mod Verdicts
+pub mod Wholes
+pub mod Stabilisers
+pub mod Grown
