@@ -17,13 +17,9 @@ use Rattle.tool_runs.specs.declared.refusals.RefusalName.TheVariants as name
 use Rattle.tool_runs.specs.declared.refusals.ToolRefusal.{ToolRefusal}
 use Rattle.tool_runs.specs.declared.runs.Kind.{Kind}
 use Rattle.tool_runs.specs.declared.runs.Kind.TheVariants.{Answer, Refusal}
+use Rattle.tool_runs.proofs.LongWords.{none_first}
 use Rattle.dialect_runs.specs.DialectRuns.{dialect_word, AsksFor, HasForm, RefusesSymbol, RefusesWords, Refuses}
 use Rattle.dialect_runs.specs.DialectRuns.{AnswersSymbol, IsDialectRun}
-
-none_from : (words : Words) (k n : ℕ) → NoneLong words → FirstLongFrom k words n → ⊥
-none_from [] k n h f = f
-none_from (w ∷ ws) k n h (inl f) = let a = h.0 in let b = f.0 in omega arith
-none_from (w ∷ ws) k n h (inr f) = none_from ws (k + 1) n h.1 f.1
 
 -- the words tell the dialect and the name
 word_length : Dialect → ℕ
@@ -86,7 +82,7 @@ module _ (words : Words) (to : Dialect) (symbol text : List ℕ) (none : NoneLon
       answered_symbol name column to' symbol' same.0 same.1 refuses
 
   no_refusal : (name : RefusalName) (word column : ℕ) → RefusesWords words word name column → ⊥
-  no_refusal name.Long word column h = none_from words 1 word none h.0
+  no_refusal name.Long word column h = none_first words 1 word none h.0
   no_refusal name.Syntax word column h = later name.Syntax word column h
   no_refusal name.Primes word column h = later name.Primes word column h
   no_refusal name.NoName word column h = later name.NoName word column h

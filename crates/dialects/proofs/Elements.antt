@@ -24,10 +24,11 @@ use Rattle.tensor_laws.proofs.Products.{product_unique}
 use Rattle.std.proofs.lemmas.Bool.{ltb-true, eqb-true}
 use Rattle.list_laws.proofs.Below.{all_below, below_told}
 use Rattle.list_laws.proofs.Tests.{implied}
+use Rattle.list_laws.proofs.Members.{each_held}
 use Rattle.op_matrix.specs.Table.{operation_at, matrix_place}
-use Rattle.op_matrix.proofs.Frames.{also}
+use Rattle.op_matrix.proofs.Frames.{also, three_told}
 use Rattle.op_matrix.proofs.Products.{product_code, frame_code, common, product_at}
-use Rattle.op_matrix.proofs.Hexagonal.{implies}
+use Rattle.op_matrix.proofs.Hexagonal.{implies, identity_at}
 use Rattle.magnetic_groups.specs.Sets.{HaveFrame}
 use Rattle.magnetic_groups.proofs.Reaching.{spanned_one}
 use Rattle.magnetic_groups.proofs.Spans.{span_product, span_member}
@@ -78,12 +79,6 @@ coded s o b e = coded_at o.kind (turned_to s o.direction) b e
 below : (n : ℕ) → found n ≡ true → n < 64
 below n e = ltb-true n 64 e
 
-three : (a b c : Bool) → also a (also b c) ≡ true → (a ≡ true) × (b ≡ true) × (c ≡ true)
-three true true true e = (refl, refl, refl)
-three true true false e = cc
-three true false c e = cc
-three false b c e = cc
-
 two : (a b : Bool) → also a b ≡ true → (a ≡ true) × (b ≡ true)
 two true true e = (refl, refl)
 two true false e = cc
@@ -114,10 +109,6 @@ all_with_identity = refl
 reversal_is : operation_at 0 true ≡ reversal
 unfolding operation_at
 reversal_is = refl
-
-identity_is : identity ≡ operation_at 0 false
-unfolding operation_at
-identity_is = refl
 
 neither : false ≡ xor false false
 unfolding xor
@@ -216,7 +207,7 @@ module _ (t : GroupSymbol) (i : IsGroupSymbol t) where
   times : (n m : ℕ) (p q r : Bool) → fits n m ≡ true → r ≡ xor p q → InGroup t (operation_at n p) → InGroup t (operation_at m q) →
       InGroup t (operation_at (product_code n m) r)
   times n m p q r e is a b =
-      let f = three (found n) (found m) (common (frame_code n) (frame_code m)) e in
+      let f = three_told (found n) (found m) (common (frame_code n) (frame_code m)) e in
       let c = span_product (generators t) frame a.0 (operation_at n p) (operation_at m q) a.1 a.2 b in
       let d = product_at n m p q r (below n f.0) (below m f.1) f.2 is in
       subst (InGroup t) (product_unique (operation_at n p) (operation_at m q) c.0 (operation_at (product_code n m) r) c.2 d) c.1
@@ -273,14 +264,14 @@ module _ (t : GroupSymbol) (i : IsGroupSymbol t) where
   -- ---- products of operators
   code_marked : (os : List Operator) (j : ℕ) → Each (λ o. Marked (code_of t.setting o)) os → Marked (code_at t.setting os j)
   unfolding Marked code_at
-  code_marked [] j h = (false, subst (InGroup t) identity_is (spanned_one (generators t)))
+  code_marked [] j h = (false, subst (InGroup t) identity_at (spanned_one (generators t)))
   code_marked (o ∷ os) zero h = h.0
   code_marked (o ∷ os) (suc j) h = code_marked os j h.1
 
   word_marked : (os : List Operator) → Each (λ o. Marked (code_of t.setting o)) os → (w : List ℕ) →
       fits_word t.setting os w ≡ true → Marked (word_code t.setting os w)
   unfolding Marked word_code
-  word_marked os h [] e = (false, subst (InGroup t) identity_is (spanned_one (generators t)))
+  word_marked os h [] e = (false, subst (InGroup t) identity_at (spanned_one (generators t)))
   word_marked os h (j ∷ w) e =
       let f = two (fits (code_at t.setting os j) (word_code t.setting os w)) (fits_word t.setting os w) e in
       marked_times (code_at t.setting os j) (word_code t.setting os w) f.0 (code_marked os j h) (word_marked os h w f.1)
@@ -294,7 +285,7 @@ module _ (t : GroupSymbol) (i : IsGroupSymbol t) where
   pieces_told os h (p ∷ ps) [] e = cc
   pieces_told os h (p ∷ ps) (w ∷ ws) e =
       let f = two (is_word t.setting os p w) (are_words t.setting os ps ws) e in
-      let g = three (found (code_of t.setting p.operator)) (fits_word t.setting os w)
+      let g = three_told (found (code_of t.setting p.operator)) (fits_word t.setting os w)
       (nat_eq (word_code t.setting os w) (code_of t.setting p.operator)) f.0 in (
         (g.0, subst Marked (eqb-true (word_code t.setting os w) (code_of t.setting p.operator) g.2) (word_marked os h w g.1)),
         pieces_told os h ps ws f.1,
@@ -376,12 +367,7 @@ module _ (t : GroupSymbol) (i : IsGroupSymbol t) where
       bits_told plain accepted (parent_operators (form_at k).parent) t.primes
       (λ g c. all_inside g (subst (λ (n : ℕ). Contains (operations_of t.setting t.primes (parent_operators n)) g) (sym same) c)) e.0
 
-pub each_at : {A : Type 0} (S : A → Type 0) (xs : List A) → Each S xs → (x : A) → Contains xs x → S x
-each_at S [] h x (j, lt, is) = absurd (omega arith)
-each_at S (y ∷ ys) h x (zero, lt, is) = subst S is h.0
-each_at S (y ∷ ys) h x (suc j, lt, is) = each_at S ys h.1 x (j, omega (arith, lt), is)
-
 pub elements : LongOperatorsAreElements
 elements k text t p mark f c is =
-    let m = each_at (PieceMarked t f.symbol) (form_at k).pieces (pieces_marked t f.symbol k f.listed f.parent) p c in
+    let m = each_held (PieceMarked t f.symbol) (form_at k).pieces (pieces_marked t f.symbol k f.listed f.parent) p c in
     operator_told t f.symbol p.operator m.0 m.1 mark is

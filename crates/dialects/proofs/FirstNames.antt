@@ -2,36 +2,18 @@
 --   first_named      each name has a first parent
 --   one_read_name    no name is read as two symbols
 --   NamedBelow       S6, and the names of the parents below a number
-use Rattle.std.proofs.Common.{◌≡◌, ◌⊎◌, ◌∙◌, ◌<◌, ◌≤◌, ◌+◌, ℕ, zero, suc, Bool, true, false, cond, nat_eq, List, [], ◌∷◌}
+use Rattle.std.proofs.Common.{◌≡◌, ◌⊎◌, ◌∙◌, ◌<◌, ◌≤◌, ◌+◌, ℕ, zero, suc, Bool, true, false, cond, List}
 use Rattle.std.proofs.Common.{max, refl, sym, ap, arith, inl, inr}
 use Rattle.std.specs.Prelude.{codes}
 use Rattle.std.proofs.lemmas.Bool.{cases_lt}
-use Rattle.std.proofs.lemmas.Bool.Decides.{nat_tests}
-use Rattle.std.proofs.lemmas.Bool.{eqb-true}
 use Rattle.list_laws.proofs.Below.{all_below, below_told}
-use Rattle.list_laws.proofs.Tests.{both}
+use Rattle.list_laws.proofs.Tests.{same_numbers_told, same_numbers_own}
 use Rattle.tensor_defs.specs.Lists.{same_numbers_in}
 use Rattle.tensor_defs.specs.Symbols.{GroupSymbol}
 use Rattle.dialects.specs.ClassNames.{class_name, plain_symbol, IsFirstOf, IsReadName}
 use Rattle.dialects.specs.Naming.{IsDialectText}
 use Rattle.dialects.specs.Searches.{IsPast, IsThis}
 use Rattle.dialects.proofs.Past.{past_join, past_within}
-
-pub same_numbers_are : (a b : List ℕ) → same_numbers_in a b ≡ true → a ≡ b
-same_numbers_are [] [] e = refl
-same_numbers_are [] (y ∷ ys) e = cc
-same_numbers_are (x ∷ xs) [] e = cc
-same_numbers_are (x ∷ xs) (y ∷ ys) e =
-    let t = both (nat_eq x y) (same_numbers_in xs ys) e in
-    let rest = same_numbers_are xs ys t.1 in
-    let head = eqb-true x y t.0 in
-    λ i. head i ∷ rest i
-
-pub same_numbers_refl : (a : List ℕ) → same_numbers_in a a ≡ true
-same_numbers_refl [] = refl
-same_numbers_refl (x ∷ xs) =
-    let head : nat_eq x x ≡ true = grind (arith, nat_tests) in
-    rw head (same_numbers_refl xs)
 
 false_true : false ≡ true → ⊥
 false_true e = cc
@@ -67,7 +49,7 @@ first_named n first last = from (search_below named n)
       record {
         first = omega arith;
         last = omega arith;
-        name_is = sym (same_numbers_are (class_name (suc k)) (class_name n) is);
+        name_is = sym (same_numbers_told (class_name (suc k)) (class_name n) is);
         least = λ m from below e. below_it m from below e;
       },
     )
@@ -75,13 +57,13 @@ first_named n first last = from (search_below named n)
         below_it : (m : ℕ) → 1 ≤ m → m < suc k → class_name m ≡ class_name n → ⊥
         below_it zero one below e = omega arith
         below_it (suc m) one below e =
-            least m (omega arith) (ap (λ (l : List ℕ). same_numbers_in l (class_name n)) e ∙ same_numbers_refl (class_name n))
+            least m (omega arith) (ap (λ (l : List ℕ). same_numbers_in l (class_name n)) e ∙ same_numbers_own (class_name n))
     from (inr none) = absurd (at_itself n first refl)
       where
         at_itself : (m : ℕ) → 1 ≤ m → m ≡ n → ⊥
         at_itself zero one e = omega arith
         at_itself (suc m) one e =
-            none m (omega arith) (ap (λ (j : ℕ). same_numbers_in (class_name j) (class_name n)) e ∙ same_numbers_refl (class_name n))
+            none m (omega arith) (ap (λ (j : ℕ). same_numbers_in (class_name j) (class_name n)) e ∙ same_numbers_own (class_name n))
 
 pub name_is_text : (n : ℕ) → 1 ≤ n → n ≤ 42 → IsDialectText (class_name n)
 name_is_text n first last =
@@ -99,7 +81,7 @@ not_s6 : (n : ℕ) → 1 ≤ n → n ≤ 42 → class_name n ≡ codes "S6" → 
 not_s6 zero first last e = omega arith
 not_s6 (suc k) first last e =
     by (same_numbers_in (class_name (suc k)) (codes "S6"))
-    (ap (λ (l : List ℕ). same_numbers_in l (codes "S6")) e ∙ same_numbers_refl (codes "S6"))
+    (ap (λ (l : List ℕ). same_numbers_in l (codes "S6")) e ∙ same_numbers_own (codes "S6"))
     (below_told 42 (λ k. cond (same_numbers_in (class_name (suc k)) (codes "S6")) false true) other_than_s6 k (omega arith))
   where
     by : (b : Bool) → b ≡ true → cond b false true ≡ true → ⊥

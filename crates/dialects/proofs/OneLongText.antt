@@ -1,12 +1,10 @@
 -- A symbol has one long text.
 use Rattle.std.proofs.Common.{◌≡◌, ◌∙◌, ◌<◌, ℕ, Bool, true, false, List, nat_eq, refl, sym, ap, subst, inl, inr}
 use Rattle.tensor_defs.specs.Symbols.{GroupSymbol}
-use Rattle.std.proofs.lemmas.Bool.{eqb-true}
+use Rattle.std.proofs.lemmas.Bool.{eqb-true, eq-eqb}
 use Rattle.list_laws.proofs.Below.{all_below, below_told}
 use Rattle.list_laws.proofs.Tests.{implied}
 use Rattle.op_matrix.proofs.Hexagonal.{implies}
-use Rattle.std.proofs.lemmas.Bool.Decides.{nat_tests}
-use Rattle.std.proofs.Common.{arith}
 use Rattle.dialects.specs.LongTexts.{form_at, has_form, IsFormText, IsShortText}
 use Rattle.dialects.specs.Laws.{OneLongText}
 use Rattle.dialects.proofs.Patterns.{one_form_text}
@@ -22,15 +20,12 @@ all_have_forms : all_below 8 (λ k. has_form (form_at k).parent) ≡ true
 unfolding form_at
 all_have_forms = refl
 
-nat_eq_of : (n m : ℕ) → n ≡ m → nat_eq n m ≡ true
-nat_eq_of n m e = grind (arith, nat_tests)
-
 same_form : (k j : ℕ) → k < 8 → j < 8 → (form_at k).parent ≡ (form_at j).parent → k ≡ j
 same_form k j h l e =
     eqb-true k j
     (implied (nat_eq (form_at k).parent (form_at j).parent) (nat_eq k j)
     (below_told 8 (λ i. implies (nat_eq (form_at k).parent (form_at i).parent) (nat_eq k i))
-    (below_told 8 other_parents all_other_parents k h) j l) (nat_eq_of (form_at k).parent (form_at j).parent e))
+    (below_told 8 other_parents all_other_parents k h) j l) (eq-eqb (form_at k).parent (form_at j).parent e))
 
 no_short : (k : ℕ) (a b : List ℕ) (t : GroupSymbol) → IsFormText k a t → IsShortText b t → ⊥
 no_short k a b t f h =

@@ -19,6 +19,7 @@ use Rattle.text_defs.specs.GroupTexts.{ends_operator, with_primes, suffix_at, gr
 use Rattle.text_laws.proofs.GroupUnique.{one_symbol}
 use Rattle.list_laws.proofs.Below.{all_below, below_told}
 use Rattle.list_laws.proofs.Tests.{both}
+use Rattle.list_laws.proofs.Members.{each_held}
 use Rattle.op_matrix.proofs.Frames.{also}
 use Rattle.group_symbol.proofs.WrittenTexts.{written_spells}
 use Rattle.dialects.specs.ClassNames.{class_name, IsReadName}
@@ -26,7 +27,7 @@ use Rattle.dialects.specs.LongTexts.{Piece, form_at, prime_text, HasPrimed, AreP
 use Rattle.dialects.specs.Naming.{Names}
 use Rattle.dialects.specs.Laws.{OneSymbol}
 use Rattle.dialects.proofs.FirstNames.{one_read_name}
-use Rattle.dialects.proofs.Elements.{BitsTold, symbol_bits, each_at}
+use Rattle.dialects.proofs.Elements.{BitsTold, symbol_bits}
 use Rattle.dialects.proofs.SameForms.{strip, plain_pieces, plain_text, stripped, one_form}
 
 -- ---- the same signs
@@ -117,7 +118,7 @@ operators_same : (t u : GroupSymbol) (ps : List Piece) → Each (λ p. SamePrime
 operators_same t u ps h [] e = tt
 operators_same t u ps h (o ∷ os) e =
     let p = e.0 in
-    (subst (SamePrimed t u) p.2 (each_at (λ q. SamePrimed t u q.operator) ps h p.0 p.1), operators_same t u ps h os e.1)
+    (subst (SamePrimed t u) p.2 (each_held (λ q. SamePrimed t u q.operator) ps h p.0 p.1), operators_same t u ps h os e.1)
 
 same_bit : (a b : Bool) (A B : Type 0) → (IsTrue a ↔ A) → (IsTrue b ↔ B) → (A ↔ B) → a ≡ b
 same_bit true true A B h k s = refl

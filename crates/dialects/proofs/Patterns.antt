@@ -3,8 +3,8 @@
 --   pattern_compared    the text of the symbol with a pattern against the word
 --   PrimesBelow         the grey symbol, and the first patterns of primes
 --   setting_all, form_all    all patterns of primes, all settings
-use Rattle.std.proofs.Common.{◌≡◌, ◌↔◌, ◌⊎◌, ◌∙◌, ◌<◌, ◌≤◌, ◌+◌, ◌^◌, ℕ, zero, suc, Bool, true, false, IsTrue, List, [], ◌∷◌, ◌++◌}
-use Rattle.std.proofs.Common.{Result, Ok, Err, max, get_or, refl, sym, ap, subst, arith, lit<, lit≤, inl, inr}
+use Rattle.std.proofs.Common.{◌≡◌, ◌↔◌, ◌⊎◌, ◌∙◌, ◌<◌, ◌+◌, ℕ, Bool, true, false, IsTrue, List, [], ◌∷◌, ◌++◌}
+use Rattle.std.proofs.Common.{Result, Ok, Err, max, get_or, refl, sym, ap, subst, arith, lit<, inl, inr}
 use Rattle.std.proofs.lemmas.Bool.{cases_lt}
 use Rattle.tensor_defs.specs.declared.Setting.{Setting}
 use Rattle.tensor_defs.specs.declared.Setting.TheVariants.{Default, X, Z, XY, D, P}
@@ -14,6 +14,7 @@ use Rattle.text_defs.specs.declared.Fault.{Fault}
 use Rattle.text_defs.specs.GroupTexts.{grey_text, setting_text}
 use Rattle.group_symbol.specs.Readings.{symbol_of}
 use Rattle.group_symbol.proofs.ParentTexts.{few_count}
+use Rattle.list_laws.proofs.Tests.{power_four}
 use Rattle.dialects.specs.LongTexts.{form_at, HasPrimed, Piece, ArePieces, prime_text, IsFormText}
 use Rattle.dialects.specs.Searches.{IsPast, IsThis, Searched, Below, IsPatternText, IsSettingText}
 use Rattle.dialects.proofs.Past.{past_none, past_join, past_within}
@@ -73,14 +74,6 @@ module _ (k : ℕ) (s : Setting) (p : ℕ) (g : Bool) where
 abbrev pub PrimesBelow : ℕ → Setting → ℕ → List ℕ → GroupSymbol → Type 0
 PrimesBelow k s n w t = IsPatternText k s 0 true w t ⊎ ((p : ℕ) × (p < n) × IsPatternText k s p false w t)
 
-pow_four : (n : ℕ) → n ≤ 4 → 2 ^ n ≤ 16
-pow_four zero h = lit≤ tt
-pow_four (suc zero) h = lit≤ tt
-pow_four (suc (suc zero)) h = lit≤ tt
-pow_four (suc (suc (suc zero))) h = lit≤ tt
-pow_four (suc (suc (suc (suc zero)))) h = lit≤ tt
-pow_four (suc (suc (suc (suc (suc n))))) h = omega arith
-
 module _ (k : ℕ) (s : Setting) (word : List ℕ) where
   pub primes_none : (a : ℕ) → IsPast (IsPatternText k s 0 true) word a → IsPast (PrimesBelow k s 0) word a
   primes_none a h = past_within (IsPatternText k s 0 true) (PrimesBelow k s 0) word a h by
@@ -104,7 +97,7 @@ module _ (k : ℕ) (s : Setting) (word : List ℕ) where
   setting_all a h = past_within (PrimesBelow k s 16) (IsSettingText k s) word a h (λ w t q. by w t q t.grey refl)
     where
       few : (t : GroupSymbol) → IsGroupSymbol t → t.primes < 16
-      few t i = let le = pow_four (operator_count t.parent) (few_count t.parent) in omega (arith, i.primes)
+      few t i = let le = power_four (operator_count t.parent) (few_count t.parent) in omega (arith, i.primes)
 
       by : (w : List ℕ) (t : GroupSymbol) → IsSettingText k s w t → (g : Bool) → t.grey ≡ g → PrimesBelow k s 16 w t
       by w t q true e = inl (record { text = q.text; setting = q.setting; primes_are = q.text.symbol.plain e; grey_is = e })

@@ -11,10 +11,9 @@ use Rattle.tensor_defs.specs.Symbols.{GroupSymbol}
 use Rattle.text_defs.specs.GroupTexts.{grey_text, setting_text}
 use Rattle.std.proofs.lemmas.Bool.{eqb-true}
 use Rattle.list_laws.proofs.Below.{all_below, below_told}
-use Rattle.list_laws.proofs.Tests.{implied}
+use Rattle.list_laws.proofs.Tests.{implied, same_numbers_own}
 use Rattle.op_matrix.proofs.Hexagonal.{implies}
 use Rattle.dialects.specs.LongTexts.{Piece, form_at, prime_text, ArePieces, IsFormText}
-use Rattle.dialects.proofs.FirstNames.{same_numbers_refl}
 
 abbrev pub strip : List ℕ → List ℕ
 strip [] = []
@@ -145,7 +144,7 @@ same_number n m h l e =
     (implied (same_numbers_in (text_at n) (text_at m)) (nat_eq n m)
     (below_told 96 (λ j. implies (same_numbers_in (text_at n) (text_at j)) (nat_eq n j))
     (below_told 96 (λ j. differs_from j (text_at j)) all_differ n h) m l)
-    (ap (λ (x : List ℕ). same_numbers_in x (text_at m)) e ∙ same_numbers_refl (text_at m)))
+    (ap (λ (x : List ℕ). same_numbers_in x (text_at m)) e ∙ same_numbers_own (text_at m)))
 
 same_parts : (k : ℕ) (g : Bool) (s : Setting) (k' : ℕ) (g' : Bool) (s' : Setting) → k < 8 → k' < 8 →
     plain_text k g s ≡ plain_text k' g' s' → SameParts k g s k' g' s'

@@ -15,10 +15,11 @@ use Rattle.text_defs.specs.AnswerTexts.{component_name, equation, free_names, li
 use Rattle.text_defs.specs.NumberTexts.{NamedTerm, spaced, sum_text, term_text}
 use Rattle.reduced_form.specs.Forms.{FormValue, form_table, free_at}
 use Rattle.reduced_form.specs.Texts.{lines_upto, placed, sum_from}
-use Rattle.reduced_form.proofs.TextLaws.{sum_whole}
+use Rattle.reduced_form.proofs.TextLaws.{sum_whole, name_read}
 use Rattle.state_marks.specs.declared.rows.RootTerm.{RootTerm}
 use Rattle.state_marks.specs.Sums.{root_term_of}
 use Rattle.state_marks.specs.Told.{StateValue, mark_at, row_at, row_of}
+use Rattle.text_laws.proofs.Joins.{equation_joined, spaced_joined}
 use Rattle.differ_answers.specs.Texts.{AreNamed, gap, marked_below, marked_indices, marked_text, named_terms}
 
 -- ---- sums
@@ -64,9 +65,6 @@ module _ (r : ℕ) (f : FormValue) (row : List RootTerm) where
       ∙ sum_whole (named_terms r f row) (subst (λ n. 0 < n) (sym (length-map row named)) some)
 
 -- the pieces of an equation
-equation_joined : (old name sum : List ℕ) →
-    (((old ++ name) ++ (32 ∷ 61 ∷ 32 ∷ [])) ++ sum) ++ 10 ∷ [] ≡ old ++ ((name ++ 32 ∷ (61 ∷ 32 ∷ sum)) ++ 10 ∷ [])
-equation_joined old name sum = simp append_assoc
 
 pub equation_written : (name : List ℕ) (ts : List NamedTerm) (old one two three new : List ℕ) → one ≡ old ++ name →
     two ≡ one ++ (32 ∷ 61 ∷ 32 ∷ []) → three ≡ two ++ sum_text ts → new ≡ three ++ 10 ∷ [] → new ≡ old ++ equation name ts
@@ -84,12 +82,6 @@ spaced_more (w ∷ v ∷ ws) (suc zero) h = refl
 spaced_more (w ∷ v ∷ ws) (suc (suc k)) h =
     ap (λ t. w ++ 32 ∷ t) (spaced_more (v ∷ ws) (suc k) (omega (arith, h)))
     ∙ sym (append_assoc w (32 ∷ spaced (take (suc k) (v ∷ ws))) (32 ∷ get_or ws k []))
-
-name_read : (r : ℕ) (free : List ℕ) (k : ℕ) → k < length free →
-    get_or (map component_name (map (index_of r) free)) k [] ≡ component_name (index_of r (free_at free k))
-name_read r [] k l = absurd (omega (arith, l))
-name_read r (x ∷ free) zero l = refl
-name_read r (x ∷ free) (suc k) l = name_read r free k (omega (arith, l))
 
 names_length : (r : ℕ) (free : List ℕ) → length (map component_name (map (index_of r) free)) ≡ length free
 names_length r free = length-map (map (index_of r) free) component_name ∙ length-map free (index_of r)
@@ -194,12 +186,6 @@ symbols_written w g f j old l1 l2 l3 l4 l5 new a b c d e h =
     ∙ symbols_joined old w g f j
 
 -- the words of two lists, with a space between the lists
-spaced_joined : (w : List ℕ) (ws : List (List ℕ)) (v : List ℕ) (vs : List (List ℕ)) →
-    spaced (w ∷ (ws ++ v ∷ vs)) ≡ spaced (w ∷ ws) ++ 32 ∷ spaced (v ∷ vs)
-spaced_joined w [] v vs = refl
-spaced_joined w (x ∷ ws) v vs =
-    ap (λ t. w ++ 32 ∷ t) (spaced_joined x ws v vs)
-    ∙ sym (append_assoc w (32 ∷ spaced (x ∷ ws)) (32 ∷ spaced (v ∷ vs)))
 
 counts_joined : (old s k o ws : List ℕ) →
     old ++ (32 ∷ (s ++ 32 ∷ [])) ++ k ++ (32 ∷ (o ++ 32 ∷ [])) ++ ws ++ 10 ∷ []

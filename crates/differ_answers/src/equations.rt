@@ -9,9 +9,9 @@ ghost use Rattle.answer_writers.specs.Rows.{IsLonger};
 ghost use Rattle.differ_answers.specs.Texts.{named_terms};
 
 use crate::faults::NoMemory;
-use crate::terms::{name_of, term_of};
+use crate::terms::term_of;
 use answer_writers::append_to;
-use reduced_form::Form;
+use reduced_form::{Form, name_of};
 use state_marks::RootTerm;
 use std::alloc::Global;
 use tensor_rank::{Comp, Rank};

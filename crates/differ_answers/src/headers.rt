@@ -11,12 +11,11 @@ ghost use Rattle.answer_writers.specs.Rows.{IsLonger};
 ghost use Rattle.differ_answers.specs.Texts.{gap};
 
 use crate::faults::NoMemory;
-use crate::terms::name_of;
 use answer_writers::append_to;
 use group_symbol::{SymbolTree, write_group};
 use itoa::Buffer;
 use jahn_grammar::{Jahn, write_jahn};
-use reduced_form::Form;
+use reduced_form::{Form, name_of};
 use std::alloc::Global;
 use tensor_rank::Rank;
 

@@ -7,25 +7,12 @@ ghost use Rattle.smallvec.specs.SmallVec.{HasRoomFor, small_vec_len};
 ghost use Rattle.reduced_form.specs.Forms.{free_at};
 
 use exact_frac::{Frac, append};
-use reduced_form::Form;
+use reduced_form::{Form, name_of};
 use root3_num::Root3;
 use smallvec::SmallVec;
 use state_marks::RootTerm;
 use std::alloc::Global;
-use tensor_rank::{Comp, Rank};
-
-/// The name of a component: T and its index digits.
-pub fn name_of<R: Rank>(alloc: Global, c: Comp<R>) -> SmallVec<u8, 8>
-    ensures name { result.items ≡ component_name (index_of R.R c) }
-    ensures short { length result.items ≤ 7 }
-{
-    let mut name = SmallVec::new(alloc);
-    name.push_reserved(b'T');
-    for place in 0..R::R {
-        name.push_reserved(48 + c.digit(place));
-    }
-    name
-}
+use tensor_rank::Rank;
 
 /// Whether a fraction is 0.
 fn is_zero_part(part: &Frac) -> bool

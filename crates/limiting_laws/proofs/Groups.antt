@@ -17,13 +17,13 @@ use Rattle.tensor_defs.specs.Frames.{IsDiagonal, IsUnit}
 use Rattle.tensor_defs.specs.Group.{InGroup, IsProductOf}
 use Rattle.tensor_defs.specs.Jahn.{JahnSymbol, IsInvariant, rank}
 use Rattle.tensor_defs.specs.Lists.{Each}
-use Rattle.tensor_defs.specs.Number.{add, mul, num_zero, num_one, whole, half_of, fraction, same_numbers}
+use Rattle.tensor_defs.specs.Number.{add, mul, num_zero, whole, half_of, fraction, same_numbers}
 use Rattle.tensor_defs.specs.Operation.{x1, x2, x3, Entry, IsProduct, Operation, identity, matrix, minus_one, nought, one, reversal, value}
 use Rattle.tensor_defs.specs.Orders.{IsOrder}
 use Rattle.tensor_defs.specs.Symbols.{generators, parent_operators}
 use Rattle.tensor_defs.specs.Tensor.{Agree, Index, Marks, Tensor, act}
 use Rattle.tensor_defs.specs.Words.{Word, begins_plus, minus_count, plus_count, words}
-use Rattle.tensor_laws.proofs.ActionLaws.{acts_in_turn, identity_acts_lem}
+use Rattle.tensor_laws.proofs.ActionLaws.{acts_in_turn, identity_acts_lem, half_of_two, half_of_none}
 use Rattle.tensor_laws.proofs.Agreeing.{act-agree}
 use Rattle.tensor_laws.proofs.Products.{product_tested}
 use Rattle.tensor_laws.proofs.WordRows.{row_sums}
@@ -100,19 +100,12 @@ two_z_rotation = record {
 }
 
 -- ---- factors and products
-unit_one : half_of (pos 2) (pos 0) ≡ num_one
-unfolding half_of whole
-unit_one = same_numbers _ _ (record { same_p = refl; same_q = refl })
-
-unit_zero : half_of (pos 0) (pos 0) ≡ num_zero
-unfolding half_of whole
-unit_zero = same_numbers _ _ (record { same_p = refl; same_q = refl })
 
 times_one : (a : Matrix) → SameEntries a (times a (value identity))
 unfolding value
-times_one a i x1 = sym (simp (unit_one, unit_zero, num_mul-zero, num_mul-one, num_add-zero))
-times_one a i x2 = sym (simp (unit_one, unit_zero, num_mul-zero, num_mul-one, num_add-zero, num_zero-add))
-times_one a i x3 = sym (simp (unit_one, unit_zero, num_mul-zero, num_mul-one, num_zero-add))
+times_one a i x1 = sym (simp (half_of_two, half_of_none, num_mul-zero, num_mul-one, num_add-zero))
+times_one a i x2 = sym (simp (half_of_two, half_of_none, num_mul-zero, num_mul-one, num_add-zero, num_zero-add))
+times_one a i x3 = sym (simp (half_of_two, half_of_none, num_mul-zero, num_mul-one, num_zero-add))
 
 one_factor : (group : Curie) (a : Matrix) → IsFactor group a → IsProductOfFactors group a
 one_factor group a f = record { factors = a ∷ []; each = (f, tt); entries = times_one a }

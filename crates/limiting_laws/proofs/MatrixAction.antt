@@ -1,12 +1,13 @@
 -- The action of matrices of numbers: index by index, that products act in turn, and that an operation acts as its matrix.
 use Rattle.std.proofs.Common.{◌≡◌, ℕ, Bool, true, false, [], ◌∷◌, length, refl, ap, sym, ◌∙◌}
-use Rattle.number_laws.proofs.NumberLaws.{num_mul_assoc, num_mul-add, num_mul-one, num_mul_left_comm, num_one-mul, ring}
+use Rattle.number_laws.proofs.NumberLaws.{num_mul_assoc, num_mul-add, num_mul-one, num_mul_left_comm, num_one-mul}
 use Rattle.tensor_defs.specs.Number.{Number, add, mul, num_one}
 use Rattle.tensor_defs.specs.Operation.{Axis, x1, x2, x3, sum_axes, Operation, value}
 use Rattle.tensor_defs.specs.Tensor.{Index, Tensor, Marks, Agree, act, axial_sign, coefficient, sign, sum_indices, time_sign}
 use Rattle.tensor_laws.proofs.Action.{sum_indices-add, sum_indices-mul, sum_indices-same}
 use Rattle.tensor_laws.proofs.Agreeing.{sum_indices-agree}
 use Rattle.tensor_laws.proofs.Determinant.{determinant-product}
+use Rattle.tensor_laws.proofs.Associativity.{exchange}
 use Rattle.limiting_defs.specs.Matrices.{Matrix, SameEntries, times, entries_product, axial_factor, act_by}
 
 -- the sum of the action, with no factor
@@ -90,15 +91,6 @@ turned_by-times a b (i ∷ is) t =
     (b x3 x2) (b x3 x3) (c x1) (c x2) (c x3)
     ∙ sym (turned_by-cons a (turned_by b t) i is ∙ (λ n. add (mul (a i x1) (right x1 n))
     (add (mul (a i x2) (right x2 n)) (mul (a i x3) (right x3 n)))))
-  where
-    exchange : (a b c p q r s t u v w x y1 y2 y3 : Number) →
-        add (mul (add (mul a p) (add (mul b s) (mul c v))) y1)
-        (add (mul (add (mul a q) (add (mul b t) (mul c w))) y2)
-        (mul (add (mul a r) (add (mul b u) (mul c x))) y3))
-        ≡ add (mul a (add (mul p y1) (add (mul q y2) (mul r y3))))
-        (add (mul b (add (mul s y1) (add (mul t y2) (mul u y3))))
-        (mul c (add (mul v y1) (add (mul w y2) (mul x y3)))))
-    exchange a b c p q r s t u v w x y1 y2 y3 = simp ring
 
 axial_factor-times : (e : Bool) (a b : Matrix) → axial_factor e (times a b) ≡ mul (axial_factor e a) (axial_factor e b)
 axial_factor-times true a b = determinant-product a b

@@ -11,8 +11,9 @@ use Rattle.number_laws.proofs.NumberLaws.{num_add-zero, num_add-neg, num_mul-zer
 use Rattle.tensor_defs.specs.IntRing.{mul-zero_ℤ, ring_ℤ}
 use Rattle.tensor_defs.specs.Number.{Number, add, mul, neg, num_zero, num_one, whole, fraction, same_numbers}
 use Rattle.tensor_defs.specs.Words.{level, plus, minus, Word, plus_count, minus_count}
-use Rattle.tensor_laws.proofs.WordTurns.{complex_same, half_double, half_num, phase}
+use Rattle.tensor_laws.proofs.WordTurns.{complex_same, phase, halve}
 use Rattle.tensor_laws.specs.WordSums.{Complex, c_mul}
+use Rattle.tensor_laws.proofs.ThreeFold.{c_mul_assoc}
 use Rattle.constraint_rows.proofs.GatherLaws.{whole-add}
 
 -- ---- products
@@ -30,21 +31,6 @@ c_mul_comm a b = complex_same (law_re (whole (negsuc 0)) a.re a.im b.re b.im) (l
 
     law_im : (p q r s : Number) → add (mul p s) (mul q r) ≡ add (mul r q) (mul s p)
     law_im p q r s = simp ring
-
-pub c_mul_assoc : (a b z : Complex) → c_mul (c_mul a b) z ≡ c_mul a (c_mul b z)
-c_mul_assoc a b z =
-    complex_same (law_re (whole (negsuc 0)) a.re a.im b.re b.im z.re z.im)
-    (law_im (whole (negsuc 0)) a.re a.im b.re b.im z.re z.im)
-  where
-    law_re : (m p q r s x y : Number) → add (mul (add (mul p r) (mul m (mul q s))) x)
-        (mul m (mul (add (mul p s) (mul q r)) y))
-        ≡ add (mul p (add (mul r x) (mul m (mul s y)))) (mul m (mul q (add (mul r y) (mul s x))))
-    law_re m p q r s x y = simp ring
-
-    law_im : (m p q r s x y : Number) → add (mul (add (mul p r) (mul m (mul q s))) y)
-        (mul (add (mul p s) (mul q r)) x) ≡ add (mul p (add (mul r y) (mul s x)))
-        (mul q (add (mul r x) (mul m (mul s y))))
-    law_im m p q r s x y = simp ring
 
 c_mul_left_comm : (a b z : Complex) → c_mul a (c_mul b z) ≡ c_mul b (c_mul a z)
 c_mul_left_comm a b z = sym (c_mul_assoc a b z) ∙ ap (λ x. c_mul x z) (c_mul_comm a b) ∙ c_mul_assoc b a z
@@ -74,9 +60,6 @@ power-add u zero k = let e : 0 + k ≡ k = omega arith in ap (power u) e ∙ sym
 power-add u (suc n) k =
     let e : suc n + k ≡ suc (n + k) = omega arith in
     ap (power u) e ∙ ap (c_mul u) (power-add u n k) ∙ sym (c_mul_assoc u (power u n) (power u k))
-
-twice_minus : (x : Number) → mul (whole (negsuc 0)) (mul (whole (negsuc 0)) x) ≡ x
-twice_minus x = num_neg-neg x
 
 module _ (c s : Number) (unit : add (mul c c) (mul s s) ≡ num_one) where
   back : c_mul (turn c (neg s)) (turn c s) ≡ c_one
@@ -174,9 +157,6 @@ module _ (c s : Number) (unit : add (mul c c) (mul s s) ≡ num_one) where
       ap (c_mul (power (turn c (neg s)) n)) (sym e)
       ∙ sym (c_mul_assoc (power (turn c (neg s)) n) (power (turn c s) n) z) ∙ ap (λ x. c_mul x z) (back_power n)
       ∙ c_one-mul z
-
-  halve : (x y : Number) → add x x ≡ add y y → x ≡ y
-  halve x y e = sym (half_double x) ∙ ap (mul half_num) e ∙ half_double y
 
   -- so the real part of the power leaves both parts the same
   pub real_fixes : (n : ℕ) (z : Complex) → c_mul (power (turn c s) n) z ≡ z →

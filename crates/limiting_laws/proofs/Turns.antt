@@ -2,61 +2,19 @@
 use Rattle.std.proofs.Common.{◌≡◌, ℕ, Bool, true, false, [], ◌∷◌, length, refl, ap, sym, ◌∙◌, inl, inr, lit<}
 use Rattle.std.proofs.lemmas.Bool.{cases_eq}
 use lib.IntN.{negsuc, pos}
-use Rattle.number_laws.proofs.NumberLaws.{num_add-zero, num_mul-add, num_mul-one, num_mul-zero, num_mul_left_comm, num_neg-neg-one, num_one-mul, num_zero-add, num_zero-mul, ring}
+use Rattle.number_laws.proofs.NumberLaws.{num_add-zero, num_mul-one, num_mul-zero, num_one-mul, num_zero-add, num_zero-mul, ring}
 use Rattle.tensor_defs.specs.Number.{Number, add, mul, neg, num_zero, num_one, whole}
 use Rattle.tensor_defs.specs.Operation.{Axis, x1, x2, x3, determinant}
 use Rattle.tensor_defs.specs.Tensor.{Index, Tensor, Marks, Agree}
-use Rattle.tensor_defs.specs.Words.{level, plus, minus, Word, even_row, odd_row, plus_count, minus_count}
-use Rattle.tensor_laws.proofs.Action.{sum_indices-add, sum_indices-mul, sum_indices-same}
-use Rattle.tensor_laws.proofs.Agreeing.{sum_indices-agree}
-use Rattle.tensor_laws.proofs.WordRows.{row_sums}
-use Rattle.tensor_laws.proofs.WordTurns.{complex_same, phase, words_tell}
-use Rattle.tensor_laws.specs.Laws.{row_sum}
+use Rattle.tensor_defs.specs.Words.{level, plus, minus, Word, plus_count, minus_count}
+use Rattle.tensor_laws.proofs.WordTurns.{complex_same, phase, words_tell, word_sum-mul, word_sum-add, level_law, minus_squared}
 use Rattle.tensor_laws.specs.WordSums.{Complex, c_add, c_mul, c_scale, times_i, times_minus_i, word_sum}
+use Rattle.tensor_laws.proofs.ThreeFold.{word_sum-agree, c_mul_assoc}
 use Rattle.limiting_defs.specs.Matrices.{Matrix, axial_factor, act_by}
 use Rattle.limiting_defs.specs.Limiting.{IsRotation, rotation}
 use Rattle.limiting_laws.specs.Laws.{TurningVanish, TurnsDecide}
 use Rattle.limiting_laws.proofs.MatrixAction.{turned_by, act-turned_by, act_by-entries, turned_by-cons, turned_by-nil}
-use Rattle.limiting_laws.proofs.Spins.{c_mul_assoc, c_mul-zero, c_one-mul, c_zero, even_phase, fifths_unit, fixed_zero, four_fifths, power_fixes, three_fifths}
-
--- ---- the sum of a word is linear in the list
-row_mul : (row : Word → Index → Number) (w : Word) (k : Number) (t : Tensor) →
-    row_sum row w (λ is. mul k (t is)) ≡ mul k (row_sum row w t)
-row_mul row w k t =
-    sum_indices-same (length w) (λ is. mul (row w is) (mul k (t is))) (λ is. mul k (mul (row w is) (t is)))
-    (λ is. num_mul_left_comm (row w is) k (t is)) ∙ sum_indices-mul (length w) k (λ is. mul (row w is) (t is))
-
-row_add : (row : Word → Index → Number) (w : Word) (t t' : Tensor) →
-    row_sum row w (λ is. add (t is) (t' is)) ≡ add (row_sum row w t) (row_sum row w t')
-row_add row w t t' =
-    sum_indices-same (length w) (λ is. mul (row w is) (add (t is) (t' is)))
-    (λ is. add (mul (row w is) (t is)) (mul (row w is) (t' is))) (λ is. num_mul-add (row w is) (t is) (t' is))
-    ∙ sum_indices-add (length w) (λ is. mul (row w is) (t is)) (λ is. mul (row w is) (t' is))
-
-word_mul : (w : Word) (k : Number) (t : Tensor) → word_sum w (λ is. mul k (t is)) ≡ c_scale k (word_sum w t)
-word_mul w k t =
-    let a = row_sums w (λ is. mul k (t is)) in
-    let b = row_sums w t in
-    complex_same (sym a.0 ∙ row_mul even_row w k t ∙ ap (mul k) b.0) (sym a.1 ∙ row_mul odd_row w k t ∙ ap (mul k) b.1)
-
-word_add : (w : Word) (t t' : Tensor) → word_sum w (λ is. add (t is) (t' is)) ≡ c_add (word_sum w t) (word_sum w t')
-word_add w t t' =
-    let a = row_sums w (λ is. add (t is) (t' is)) in
-    let b = row_sums w t in
-    let d = row_sums w t' in
-    complex_same (sym a.0 ∙ row_add even_row w t t' ∙ (λ i. add (b.0 i) (d.0 i)))
-    (sym a.1 ∙ row_add odd_row w t t' ∙ (λ i. add (b.1 i) (d.1 i)))
-
-row_agree : (row : Word → Index → Number) (w : Word) (t t' : Tensor) → Agree (length w) t t' → row_sum row w t ≡ row_sum row w t'
-row_agree row w t t' e =
-    sum_indices-agree (length w) (λ is. mul (row w is) (t is)) (λ is. mul (row w is) (t' is))
-    (λ is n. ap (mul (row w is)) (e is n))
-
-pub word_agree : (w : Word) (t t' : Tensor) → Agree (length w) t t' → word_sum w t ≡ word_sum w t'
-word_agree w t t' e =
-    let a = row_sums w t in
-    let b = row_sums w t' in
-    complex_same (sym a.0 ∙ row_agree even_row w t t' e ∙ b.0) (sym a.1 ∙ row_agree odd_row w t t' e ∙ b.1)
+use Rattle.limiting_laws.proofs.Spins.{c_mul-zero, c_one-mul, c_zero, even_phase, fifths_unit, fixed_zero, four_fifths, power_fixes, three_fifths}
 
 -- ---- a rotation multiplies the sum of a word by its factor
 -- an index of the turned list, with the sums of the parts put in
@@ -68,10 +26,10 @@ turned_axis : (w : Word) (a : Matrix) (t : Tensor) (p : Complex) →
 turned_axis w a t p e i =
     let part : Axis → Tensor = λ j is. mul (a i j) (turned_by a (λ js. t (j ∷ js)) is) in
     let sum : (j : Axis) → word_sum w (part j) ≡ c_scale (a i j) (c_mul p (word_sum w (λ js. t (j ∷ js)))) =
-    λ j. word_mul w (a i j) (turned_by a (λ js. t (j ∷ js))) ∙ ap (c_scale (a i j)) (e j) in
+    λ j. word_sum-mul w (a i j) (turned_by a (λ js. t (j ∷ js))) ∙ ap (c_scale (a i j)) (e j) in
     (λ n. word_sum w (λ is. turned_by-cons a t i is n))
-    ∙ word_add w (part x1) (λ is. add (part x2 is) (part x3 is))
-    ∙ ap (c_add (word_sum w (part x1))) (word_add w (part x2) (part x3))
+    ∙ word_sum-add w (part x1) (λ is. add (part x2 is) (part x3 is))
+    ∙ ap (c_add (word_sum w (part x1))) (word_sum-add w (part x2) (part x3))
     ∙ (λ n. c_add (sum x1 n) (c_add (sum x2 n) (sum x3 n)))
 
 -- a zero in the third place
@@ -79,13 +37,6 @@ two_parts : (a b d : Complex) → c_add a (c_add b (c_scale num_zero d)) ≡ c_a
 two_parts a b d =
     complex_same (ap (λ x. add a.re (add b.re x)) (num_zero-mul d.re) ∙ ap (add a.re) (num_add-zero b.re))
     (ap (λ x. add a.im (add b.im x)) (num_zero-mul d.im) ∙ ap (add a.im) (num_add-zero b.im))
-
-third_part : (a b d : Complex) → c_add (c_scale num_zero a) (c_add (c_scale num_zero b) (c_scale num_one d)) ≡ d
-third_part a b d =
-    complex_same (simp (num_zero-mul, num_one-mul, num_zero-add)) (simp (num_zero-mul, num_one-mul, num_zero-add))
-
-minus_squared : mul (whole (negsuc 0)) (whole (negsuc 0)) ≡ num_one
-minus_squared = ap (mul (whole (negsuc 0))) (sym (num_mul-one (whole (negsuc 0)))) ∙ num_neg-neg-one
 
 ruleset signs = (minus_squared, num_mul-one, ring)
 
@@ -146,7 +97,7 @@ turn_words : (c s : Number) (w : Word) (t : Tensor) →
 turn_words c s [] t =
     complex_same (turned_by-nil (rotation c s) t) refl ∙ sym (c_one-mul (record { re = t []; im = num_zero }))
 turn_words c s (level ∷ w) t =
-    turned_axis w (rotation c s) t (phase c s w) (λ j. turn_words c s w (λ js. t (j ∷ js))) x3 ∙ third_part _ _ _
+    turned_axis w (rotation c s) t (phase c s w) (λ j. turn_words c s w (λ js. t (j ∷ js))) x3 ∙ level_law _ _ _
 turn_words c s (plus ∷ w) t =
     let p = phase c s w in
     let axis = turned_axis w (rotation c s) t p (λ j. turn_words c s w (λ js. t (j ∷ js))) in
@@ -189,7 +140,7 @@ act_rotation m c s unit t is =
 turned_words : (r : ℕ) (t : Tensor) (c s : Number) → Agree r (turned_by (rotation c s) t) t → (w : Word) → length w ≡ r →
     word_sum w t ≡ c_mul (phase c s w) (word_sum w t)
 turned_words r t c s e w n =
-    sym (word_agree w (turned_by (rotation c s) t) t (λ is l. e is (l ∙ n))) ∙ turn_words c s w t
+    sym (word_sum-agree w (turned_by (rotation c s) t) t (λ is l. e is (l ∙ n))) ∙ turn_words c s w t
 
 -- a list that the rotation of cosine 3/5 and sine 4/5 leaves unchanged
 fifths_rotation : IsRotation (rotation three_fifths four_fifths)

@@ -14,6 +14,7 @@ use Rattle.request_lines.specs.declared.Named.{Named}
 use Rattle.request_lines.specs.declared.Span.{Span}
 use Rattle.request_lines.specs.declared.Request.TheVariants as read
 use Rattle.request_lines.specs.declared.Request.{Request as ReadRequest}
+use Rattle.line_runs.proofs.LongLines.{at_most}
 use Rattle.line_answers.specs.Kinds.{IsNear, group_at}
 
 group_same : (a : GroupAt) (g : Named) → TellsGroup g a → a ≡ group_at g
@@ -125,10 +126,6 @@ front_within front line (j ∷ []) h = omega (arith, ap length h.line_is, length
 front_within front line (j ∷ k ∷ js) h =
     omega (arith, front_within (front ++ (h.0 ++ codes ",")) line (k ∷ js) h.3, length-append front (h.0 ++ codes ","))
 
-bytes_most : (format : Format) → longest_line format ≤ 4000
-bytes_most One = omega arith
-bytes_most Two = omega arith
-
 pub differ_near : (format : Format) (line : List ℕ) (q : Request) (g f : Named) (j : Span) → SpellsRequest format line q
     → Tells line (read.Differ g f j) q → length line ≤ longest_line format → IsNear g × IsNear f
 differ_near format line (Differ a b js) g f j s t short =
@@ -145,7 +142,7 @@ differ_near format line (Differ a b js) g f j s t short =
         length-append s.words (codes " "),
         words,
         short,
-        bytes_most format,
+        at_most format,
       ),
     )
   where

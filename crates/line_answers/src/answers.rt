@@ -10,13 +10,11 @@ ghost use Rattle.line_answers.specs.Kinds.{IsGrownBy, IsStop};
 use crate::kinds::{differ, elements, forms, pairs, same, states, voigt};
 use crate::stops::NoAnswer;
 use line_runs::{
-    AnswersLines, Format, LineEnd, NoMemory, Refusal, Word, longest, refuse, refuse_long,
+    AnswersLines, Format, LineEnd, NoMemory, Refusal, Word, is_heading_line, longest, refuse,
+    refuse_long,
 };
 use request_lines::{Request, read_request};
 use std::alloc::Global;
-
-/// The first line of an input in format 2.
-const HEADING: &[u8] = b"format 2";
 
 /// Whether a line is the first one and says that its input is in format 2.
 fn is_heading(number: u64, line: &[u8]) -> bool
@@ -25,7 +23,7 @@ fn is_heading(number: u64, line: &[u8]) -> bool
     if number != 1 {
         return false;
     }
-    line == HEADING
+    is_heading_line(line)
 }
 
 /// Whether a line is empty, or says that its input is in format 2.

@@ -1,21 +1,21 @@
 -- Lines that are too long, and the line that tells format 2.
 --   long_answer, long_refused, long_slow    a line that is too long is refused, whatever its bytes
 --   stands_long, stands_true, stands_false    what is held of a line that is too long, and of another one
---   same_pointwise, other_length    numbers that are the same, one by one
-use Rattle.std.proofs.Common.{◌≡◌, inl, inr, cond, ◌∙◌, ◌&&◌, nat_eq, ℕ, ◌+◌, ◌<◌, ◌≤◌, Bool, true, false, List, [], ◌∷◌, length, refl, arith, ap}
+--   other_length, heading_told    the line that says that an input is in format 2
+use Rattle.std.proofs.Common.{◌≡◌, inl, inr, ◌∙◌, ℕ, ◌+◌, ◌<◌, ◌≤◌, Bool, true, false, List, [], ◌∷◌, length, refl, arith, ap}
 use Rattle.text_defs.specs.declared.Format.{Format}
 use Rattle.text_defs.specs.declared.Format.TheVariants.{One, Two}
 use Rattle.text_defs.specs.Requests.{longest_line}
-use Rattle.text_defs.specs.Refusals.{IsPassed, IsRefused, refusal_text}
+use Rattle.text_defs.specs.Refusals.{IsPassed, IsRefused, refusal_text, heading}
 use Rattle.text_defs.specs.Refusals.RefusalWord.{Long}
 use Rattle.text_defs.specs.Answers.{IsAnswer}
 use Rattle.tensor_defs.specs.Lists.{same_numbers_in}
 use Rattle.std.proofs.Common.{◌↔◌, IsTrue, subst}
 use Rattle.std.proofs.lemmas.Bool.Decides.{nat_tests}
-use Rattle.std.specs.Prelude.{OnErr}
+use Rattle.std.specs.Prelude.{OnErr, MatchBool}
 use Rattle.std.proofs.Common.{Ok, Err}
 use Rattle.std.specs.declared.result.Result.{Result}
-use lib.Pointwise.{pointwise}
+use Rattle.list_laws.proofs.Tests.{same_numbers_own, same_numbers_told}
 use Rattle.line_runs.specs.Answering.{IsQuick}
 use Rattle.line_runs.specs.Reads.{Stands}
 
@@ -37,7 +37,7 @@ long_answer format number line more =
 pub long_refused : (format : Format) (number : ℕ) (line : List ℕ) → longest_line format < length line → IsRefused format number line
 long_refused format number line more = (not_passed format number line more, Long, longest_line format + 1, (more, refl))
 
-at_most : (format : Format) → longest_line format ≤ 4000
+pub at_most : (format : Format) → longest_line format ≤ 4000
 at_most One = omega arith
 at_most Two = omega arith
 
@@ -71,13 +71,11 @@ other_length [] ys more = absurd (omega arith)
 other_length (x ∷ xs) [] more = refl
 other_length (x ∷ xs) (y ∷ ys) more = grind (arith, nat_tests, other_length xs ys)
 
-pub same_pointwise : (xs ys : List ℕ) → same_numbers_in xs ys ≡ pointwise nat_eq xs ys
-same_pointwise [] [] = refl
-same_pointwise [] (y ∷ ys) = refl
-same_pointwise (x ∷ xs) [] = refl
-same_pointwise (x ∷ xs) (y ∷ ys) =
-    ap (λ (b : Bool). cond (nat_eq x y) b false) (same_pointwise xs ys) ∙ as_both (nat_eq x y) (pointwise nat_eq xs ys)
+pub heading_told : (line : List ℕ) (b : Bool) → MatchBool b (line ≡ heading) (line ≡ heading → ⊥) →
+    same_numbers_in line heading ≡ b
+heading_told line true e = ap (λ (l : List ℕ). same_numbers_in l heading) e ∙ same_numbers_own heading
+heading_told line false n = by (same_numbers_in line heading) refl
   where
-    as_both : (s t : Bool) → cond s t false ≡ (s && t)
-    as_both true t = refl
-    as_both false t = refl
+    by : (t : Bool) → same_numbers_in line heading ≡ t → same_numbers_in line heading ≡ false
+    by true is = absurd (n (same_numbers_told line heading is))
+    by false is = is

@@ -8,7 +8,7 @@ mod outcome;
 mod refusals;
 mod top;
 
-pub use lines::{AnswersLines, LineEnd, refuse, refuse_long};
+pub use lines::{AnswersLines, LineEnd, is_heading_line, refuse, refuse_long};
 pub use outcome::Outcome;
 pub use refusals::{Refusal, Word, longest};
 pub use tensor_ports::NoMemory;

@@ -68,6 +68,13 @@ pub fn refuse_long(format: Format, number: u64, out: &mut Vec<u8>) -> Result<(),
 /// The first line of an input in format 2.
 const HEADING: &[u8] = b"format 2";
 
+/// Whether a line is the one that, where it is the first, says that its input is in format 2.
+pub fn is_heading_line(line: &[u8]) -> bool
+    ensures { MatchBool result (line.now ≡ heading) (line.now ≡ heading → ⊥) }
+{
+    line == HEADING
+}
+
 /// Whether a line says that its input is in format 2.
 fn tells_two(is_long: bool, line: &[u8]) -> bool
     ensures { (whole : List ℕ) → Stands is_long line.now whole → same_numbers_in whole heading ≡ result }
@@ -75,7 +82,7 @@ fn tells_two(is_long: bool, line: &[u8]) -> bool
     if is_long {
         return false;
     }
-    line == HEADING
+    is_heading_line(line)
 }
 
 /// The format of an input at a line, from what the lines before it told.

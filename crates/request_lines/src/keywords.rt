@@ -1,8 +1,9 @@
 //! The keyword of a line.
 
-ghost use Rattle.std.specs.Prelude.{◌≡◌, ◌≢◌, ◌<◌, ◌≤◌, IfOk, length, take, slice_index};
+ghost use Rattle.std.specs.Prelude.{◌≡◌, ◌<◌, ◌≤◌, IfOk, length};
 ghost use Rattle.request_lines.specs.Keywords.{keyword_text, keyword_at, ReadsKeyword};
 
+use group_symbol::common_front;
 use text_defs::Fault;
 
 /// What the first word of a line asks for.
@@ -47,20 +48,6 @@ fn text_of(keyword: Keyword) -> &'static [u8]
         Keyword::Differ => b"differ ",
         Keyword::Same => b"same ",
     }
-}
-
-/// How many bytes two texts have in common from their beginnings.
-fn common_front(a: &[u8], b: &[u8]) -> usize
-    ensures within_a { result ≤ length a.now }
-    ensures within_b { result ≤ length b.now }
-    ensures same { take result a.now ≡ take result b.now }
-    ensures differ { result < length a.now → result < length b.now → slice_index a.now result ≢ slice_index b.now result }
-{
-    let mut at = 0;
-    while at < a.len() && at < b.len() && a[at] == b[at] {
-        at += 1;
-    }
-    at
 }
 
 /// The keyword that the line begins with, and the place behind its space.

@@ -1,1 +1,1 @@
-mod LongWords
+pub mod LongWords

@@ -1,6 +1,6 @@
 use Rattle.std.proofs.Common.{◌<◌, refl, arith}
+use Rattle.list_laws.proofs.Lists.{text_at}
 use Rattle.tensor_vectors.specs.Types.{jahn_symbols}
-use Rattle.tensor_vectors.proofs.Places.{text_at}
 use Rattle.tensor_vectors.proofs.jahn_row.Goals as goal
 
 pub returns-clause-row : goal.returns-clause-row

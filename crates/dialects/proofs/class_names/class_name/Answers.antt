@@ -1,10 +1,10 @@
 use Rattle.std.proofs.Common.{◌<◌, ◌-◌, refl, arith}
+use Rattle.list_laws.proofs.Lists.{text_at}
 use Rattle.dialects.specs.ClassNames.{class_name}
-use Rattle.dialects.proofs.TableRows.{row_name}
 use Rattle.dialects.proofs.class_names.class_name.Goals as goal
 
 pub returns : goal.returns
 unfolding class_name
 returns c =
     let listed : c.args.number - 1 < 42 = omega arith in
-    rw (row_name _ _ _ listed) refl
+    rw (text_at _ _ _ listed) refl

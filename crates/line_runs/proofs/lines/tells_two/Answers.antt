@@ -1,8 +1,8 @@
-use Rattle.std.proofs.Common.{◌≡◌, ◌<◌, sym, ◌∙◌, ap, arith, length, refl, List, ℕ}
+use Rattle.std.proofs.Common.{◌≡◌, ◌<◌, ◌∙◌, ap, arith, length, refl, List, ℕ}
 use Rattle.text_defs.specs.Refusals.{heading}
 use Rattle.text_defs.specs.declared.Format.TheVariants.{One}
 use Rattle.tensor_defs.specs.Lists.{same_numbers_in}
-use Rattle.line_runs.proofs.LongLines.{other_length, same_pointwise, stands_false, stands_true}
+use Rattle.line_runs.proofs.LongLines.{other_length, stands_false, stands_true, heading_told}
 use Rattle.line_runs.proofs.lines.tells_two.Goals as goal
 
 pub returns-then-is_long : goal.returns-then-is_long
@@ -14,4 +14,4 @@ returns-then-is_long c = λ whole stands.
 pub returns : goal.returns
 returns c = λ whole stands.
     ap (λ (l : List ℕ). same_numbers_in l heading) (stands_false c.args.is_long c.args.line.now whole c.if-is_long.false stands)
-    ∙ same_pointwise c.args.line.now heading ∙ sym c.eq.ensures
+    ∙ heading_told c.args.line.now _ c.is_heading_line.ensures
