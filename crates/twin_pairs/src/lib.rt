@@ -7,7 +7,8 @@ ghost use Rattle.tensor_defs.specs.Lists.{Each};
 ghost use Rattle.tensor_defs.specs.Operation.{Operation, IsProduct};
 ghost use Rattle.tensor_defs.specs.States.{IsState, IsSwappable, Times};
 ghost use Rattle.tensor_defs.specs.PairClasses.{ArePairClasses};
-ghost use Rattle.magnetic_groups.specs.Sets.{In};
+ghost use Rattle.tensor_defs.specs.Names.{IsNameOf};
+ghost use Rattle.magnetic_groups.specs.Sets.{In, IsWithin};
 ghost use Rattle.coset_states.specs.Numbering.{TellsState};
 ghost use Rattle.twin_pairs.specs.Classes.{AreAdded, AreMarked, AreMembers, HasNoEarlier, IsClassFrom, class_of};
 
@@ -180,8 +181,32 @@ fn is_swappable(states: &States, element: &Op) -> bool
     false
 }
 
+/// The name of a pair group. Where it is the whole subgroup, its name is known.
+fn pair_name(
+    alloc: Global,
+    sub: &Group,
+    sub_name: &Option<SymbolTree>,
+    pair_group: &Group,
+) -> Result<Option<SymbolTree>, NoMemory>
+    requires named { IsNameOf sub_name.now (In sub.now) }
+    requires below { IsWithin pair_group.now sub.now }
+    ensures { IfOk result (λ o. IsNameOf o (In pair_group.now)) }
+{
+    if sub.is_subset(pair_group) {
+        return Ok(*sub_name);
+    }
+    Ok(name_of(alloc, pair_group)?)
+}
+
 /// The class of the state `k`, the least of its class.
-fn pair_class(alloc: Global, states: &States, element: &Op, k: usize) -> Result<PairClass, NoMemory>
+fn pair_class(
+    alloc: Global,
+    states: &States,
+    sub_name: &Option<SymbolTree>,
+    element: &Op,
+    k: usize,
+) -> Result<PairClass, NoMemory>
+    requires named { IsNameOf sub_name.now (In states.now.sub) }
     requires least { IsState states.now.reps k element.now }
     requires to_count { k ≤ length states.now.reps }
     requires inside { Contains states.now.whole element.now }
@@ -194,7 +219,7 @@ fn pair_class(alloc: Global, states: &States, element: &Op, k: usize) -> Result<
     let swappable = is_swappable(states, element);
     let sub = states.sub();
     let pair_group = sub.meet_conjugate(alloc, element)?;
-    let pair_name = name_of(alloc, &pair_group)?;
+    let pair_name = pair_name(alloc, sub, sub_name, &pair_group)?;
     let twin_group = sub.joined(alloc, element)?;
     let twin_name = name_of(alloc, &twin_group)?;
     Ok(PairClass {
@@ -219,12 +244,13 @@ fn append(classes: &mut Vec<PairClass>, class: PairClass) -> Result<(), AllocErr
 pub fn pair_classes(alloc: Global, states: &States) -> Result<Vec<PairClass>, NoMemory>
     ensures { IfOk result (λ v. ArePairClasses (In states.now.whole) (In states.now.sub) states.now.reps (map class_of v.items)) }
 {
+    let sub_name = name_of(alloc, states.sub())?;
     let mut classes = Vec::new(alloc);
     let mut seen = [false; 129];
     for place in 0..states.count() {
         if !seen[place + 1] {
             let element = states.representative(place + 1);
-            let class = pair_class(alloc, states, &element, place + 1)?;
+            let class = pair_class(alloc, states, &sub_name, &element, place + 1)?;
             mark_members(&class.members, &mut seen);
             append(&mut classes, class)?;
         }
