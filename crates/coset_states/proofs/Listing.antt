@@ -66,6 +66,7 @@ listing_none gs fs reps s e l q = subst (λ x. IsCovering gs fs 0 x s) (sym q) (
   complete = λ m d k h. absurd (omega arith);
   covered = λ j d h. absurd (omega arith);
   from = λ r c. let h = c.1 in absurd (omega arith);
+  few = omega arith;
   rising = tt;
   least = tt;
 })
@@ -77,6 +78,7 @@ listing_past gs fs i reps s g l at n = record {
   complete = l.complete;
   covered = λ j d h. by j d h (cases_lt j i);
   from = λ r c. let t = l.from r c in let u = t.1 in (t.0, omega arith, t.2, t.3);
+  few = let f = l.few in omega (arith, f);
   rising = l.rising;
   least = l.least;
 }
@@ -178,6 +180,7 @@ module _ (gs fs : List Operation) (i : ℕ) (reps : List Operation) (s s' : List
     complete = λ m d k h c. complete_new m d k (cases_lt m (length reps)) (subst (λ x. m < x) long h) c;
     covered = λ j d h. covered_new j d h (cases_lt j i);
     from = λ r c. from_new r (Contains-push_cases reps g r c);
+    few = let f = l.few in let o = long in omega (arith, f, o);
     rising = rising_push comes_before reps g l.rising (each_from (λ x. IsTrue (comes_before x g)) reps rep_before);
     least = each_push (λ r. (k : Operation) → InCoset fs r k → k ≢ r → IsTrue (comes_before r k)) reps g l.least least_new;
   }

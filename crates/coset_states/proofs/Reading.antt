@@ -1,8 +1,8 @@
 -- What is read off the numbers of states.
 use Rattle.std.proofs.Common.{◌≡◌, ◌≢◌, ℕ, ◌+◌, ◌-◌, ◌<◌, ◌≤◌, Bool, true, List, length, refl, ap, sym, ◌∙◌, arith, subst}
-use Rattle.std.specs.Prelude.{slice_index_or, slice_get, Contains, ◌↔◌, IsTrue, Some, nat_eq}
+use Rattle.std.specs.Prelude.{slice_index_or, slice_get, Contains, ◌↔◌, IsTrue, Some, None, nat_eq}
 use Rattle.std.proofs.lemmas.Bool.Decides.{nat_tests}
-use Rattle.std.proofs.lemmas.Option.{slice_get-get_or, same_Some}
+use Rattle.std.proofs.lemmas.Option.{slice_get-get_or, same_Some, slice_get_within}
 use Rattle.tensor_defs.specs.Operation.{Operation}
 use Rattle.tensor_defs.specs.States.{Times, IsState, AreStates}
 use Rattle.op_matrix.specs.Table.{nth_operation, place}
@@ -80,3 +80,18 @@ seen_none gs fs reps s v p g i e at z = subst (λ w. ¬ Contains w.whole g) e (n
 
 pub seen_some : (gs fs reps : List Operation) (s : List ℕ) (v : Cosets) (p k : ℕ) (g : Operation) → IsKept gs fs reps s → seen gs fs reps ≡ v → p ≡ place g → g ≡ nth_operation p → state_at s p ≡ k → k ≢ 0 → (r : Operation) × IsState v.reps k r × Times r (In v.sub) g
 seen_some gs fs reps s v p k g i e at is t n = subst (λ w. (r : Operation) × IsState w.reps k r × Times r (In w.sub) g) e (some_told gs fs reps s p k g i at is t n)
+
+-- no more states than elements
+pub seen_few : (gs fs reps : List Operation) (s : List ℕ) (v : Cosets) (n : ℕ) → IsKept gs fs reps s → seen gs fs reps ≡ v → n ≡ length gs → n ≤ 128 → length reps ≤ 128
+seen_few gs fs reps s v n i e q h = let f = i.covering.few in omega (arith, f, q)
+
+-- the number of the state that an operation is in
+pub seen_number : (gs fs reps : List Operation) (s : List ℕ) (v : Cosets) (k p : ℕ) (g r : Operation) → IsKept gs fs reps s → seen gs fs reps ≡ v → p ≡ place g → g ≡ nth_operation p → IsState v.reps k r → Times r (In v.sub) g → state_at s p ≡ k
+seen_number gs fs reps s v k p g r i e at is st t =
+    let q : IsState reps k r = subst (λ w. IsState w.reps k r) (sym e) st in
+    let h = slice_get_within reps (k - 1) r q.1 in
+    let l = q.0 in
+    (numbered gs fs reps s k p g r i l (omega (arith, h, l)) at is q).1 (subst (λ w. Times r (In w.sub) g) (sym e) t)
+
+pub seen_zero : (gs fs reps : List Operation) (s : List ℕ) (v : Cosets) (k p : ℕ) (g r : Operation) → IsKept gs fs reps s → seen gs fs reps ≡ v → p ≡ place g → g ≡ nth_operation p → state_at s p ≡ 0 → IsState v.reps k r → Times r (In v.sub) g → None ≡ Some k
+seen_zero gs fs reps s v k p g r i e at is z st t = let q = seen_number gs fs reps s v k p g r i e at is st t in let l = st.0 in absurd (omega (arith, q, z, l))

@@ -5,7 +5,7 @@
 --   IsCovering   the elements before a place are in the states listed so far
 --   IsKept       what the parts of a list of states have to do with one another
 -- Source: International Tables D 3.4.
-use Rattle.std.specs.Prelude.{◌≡◌, ◌≢◌, ℕ, ◌+◌, ◌<◌, List, length, slice_index_or, Contains, ◌⊎◌, IsTrue, Option, Some, None}
+use Rattle.std.specs.Prelude.{◌≡◌, ◌≢◌, ℕ, ◌+◌, ◌<◌, ◌≤◌, List, length, slice_index_or, Contains, ◌⊎◌, IsTrue, Option, Some, None}
 use Rattle.tensor_defs.specs.Operation.{Operation, IsProduct}
 use Rattle.tensor_defs.specs.Lists.{Each, IsRising}
 use Rattle.tensor_defs.specs.OperationOrder.{comes_before}
@@ -46,6 +46,7 @@ pub record IsCovering (gs fs : List Operation) (i : ℕ) (reps : List Operation)
   pub covered : (j : ℕ) (d : Operation) → j < i → state_at s (place (slice_index_or gs j d)) ≢ 0
   pub from : (r : Operation) → Contains reps r →
       (j : ℕ) × (j < i) × (j < length gs) × ((d : Operation) → slice_index_or gs j d ≡ r)
+  pub few : length reps ≤ i
   pub rising : IsRising comes_before reps
   pub least : Each (λ r. (k : Operation) → InCoset fs r k → k ≢ r → IsTrue (comes_before r k)) reps
 

@@ -1,7 +1,7 @@
 //! Domain states: the left cosets of a group in a group. Source: International Tables for Crystallography D 3.4.
 #![tactic(auto)]
 
-ghost use Rattle.std.specs.Prelude.{◌≡◌, ◌≤◌, ◌↔◌, ℕ, IsTrue, IfErr, IfOk, length, replicate, Contains};
+ghost use Rattle.std.specs.Prelude.{◌≡◌, ◌≤◌, ◌↔◌, ℕ, IsTrue, IfErr, IfOk, length, replicate, Contains, Some};
 ghost use Rattle.tensor_defs.specs.Operation.{Operation};
 ghost use Rattle.tensor_defs.specs.Frames.{HaveCommonFrame};
 ghost use Rattle.tensor_defs.specs.States.{AreStates, IsState, Times};
@@ -120,12 +120,14 @@ impl States {
     /// The number of states.
     pub fn count(&self) -> usize
         ensures is { result ≡ length self.now.reps }
+        ensures few { result ≤ 128 }
         ensures states { AreStates (In self.now.whole) (In self.now.sub) self.now.reps }
         ensures groups { IsGroup self.now.whole × IsGroup self.now.sub }
         ensures within { IsWithin self.now.sub self.now.whole }
     {
         // a field that is read brings the invariant into the proof
         let _numbers = &self.numbers;
+        let _size = self.whole.len();
         self.representatives.len()
     }
 
@@ -149,7 +151,8 @@ impl States {
 
     /// The state that an operation is in; none exactly where it isn't in the whole group.
     pub fn state_of(&self, op: &Op) -> Option<usize>
-        ensures { TellsState self.now op.now result }
+        ensures state { TellsState self.now op.now result }
+        ensures only { (k : ℕ) (r : Operation) → IsState self.now.reps k r → Times r (In self.now.sub) op.now → result ≡ Some k }
     {
         let number = self.numbers[op.place()];
         if number == 0 {

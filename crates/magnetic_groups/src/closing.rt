@@ -8,7 +8,6 @@ ghost use Rattle.magnetic_groups.specs.Sets.{HaveFrame, Spanned, IsGroup};
 
 use crate::Group;
 use crate::found::Found;
-use crate::greedy::greedy_of;
 use op_matrix::Op;
 use std::alloc::{AllocError, Global};
 
@@ -55,12 +54,12 @@ pub fn finish(generators: &[Op], done: usize, marks: &mut [bool], found: &mut Fo
     }
 }
 
-/// The operations at the marked places, in their order.
-pub fn list_marked(alloc: Global, marks: &[bool]) -> Result<Vec<Op>, AllocError>
+/// The operations at the marked places, in their order, with room for so many at first.
+fn list_marked(alloc: Global, marks: &[bool], room: usize) -> Result<Vec<Op>, AllocError>
     requires { length marks.now ≡ 128 }
     ensures { IfOk result (λ v. v.items ≡ marked_below 128 marks.now) }
 {
-    let mut elements = Vec::new(alloc);
+    let mut elements = Vec::with_capacity(alloc, room)?;
     for place in 0..128 {
         if marks[place] {
             elements.push(Op::at_place(place))?;
@@ -78,7 +77,7 @@ pub fn close(alloc: Global, generators: Vec<Op>) -> Result<Group, AllocError>
     let mut found = Found::none();
     add(Op::identity(), &mut marks, &mut found);
     finish(&generators, 0, &mut marks, &mut found);
-    let elements = list_marked(alloc, &marks)?;
+    let elements = list_marked(alloc, &marks, found.len())?;
     Ok(Group {
         elements,
         marks,
@@ -86,13 +85,13 @@ pub fn close(alloc: Global, generators: Vec<Op>) -> Result<Group, AllocError>
     })
 }
 
-/// The group of the operations at the marked places.
-pub fn of_marks(alloc: Global, marks: [bool; 128]) -> Result<Group, AllocError>
+/// The group of the operations at the marked places, with room for so many at first. All of its elements generate it.
+pub fn of_marks(alloc: Global, marks: [bool; 128], room: usize) -> Result<Group, AllocError>
     requires { IsGroup (marked_below 128 marks) }
     ensures { IfOk result (λ g. g ≡ marked_below 128 marks) }
 {
-    let elements = list_marked(alloc, &marks)?;
-    let generators = copied(alloc, greedy_of(&elements).as_slice())?;
+    let elements = list_marked(alloc, &marks, room)?;
+    let generators = copied(alloc, &elements)?;
     Ok(Group {
         elements,
         marks,
@@ -104,7 +103,7 @@ pub fn of_marks(alloc: Global, marks: [bool; 128]) -> Result<Group, AllocError>
 pub fn copied(alloc: Global, operations: &[Op]) -> Result<Vec<Op>, AllocError>
     ensures { IfOk result (λ v. v.items ≡ operations.now) }
 {
-    let mut all = Vec::new(alloc);
+    let mut all = Vec::with_capacity(alloc, operations.len())?;
     for operation in operations {
         all.push(*operation)?;
     }

@@ -36,7 +36,7 @@ impl Group {
         requires { FitsFrame self.now op.now }
         ensures { IfOk result (λ g. IsListing comes_before (InPairGroup (In self.now) op.now) g) }
     {
-        let group = of_marks(alloc, self.conjugate_marks(op))?;
+        let group = of_marks(alloc, self.conjugate_marks(op), self.len())?;
         Ok(group)
     }
 }

@@ -151,7 +151,7 @@ impl Span {
 }
 
 /// The generators taken from the elements of a group.
-pub fn greedy_of(elements: &[Op]) -> Greedy
+fn greedy_of(elements: &[Op]) -> Greedy
     requires { IsGroup elements.now }
     ensures elements { AllOf (In result) (In elements.now) }
     ensures taken { IsGreedy elements.now result }

@@ -1,12 +1,14 @@
 -- The classes with what is told of each.
 --   class_assembled    the same set has the same name
---   none_earlier, IsEarlier, some_earlier    the answers of the test for an earlier state
---   IsClassing, classing_none, classing_skip, classing_push, classing_done    the classes of the states up to n
-use Rattle.std.proofs.Common.{◌≡◌, ℕ, ◌+◌, ◌⊎◌, inl, inr, ◌<◌, ◌≤◌, Bool, true, false, List, [], ◌∷◌, ◌++◌, length, refl, ap, sym, arith, subst}
-use Rattle.std.specs.Prelude.{Contains, ◌↔◌, IsTrue, Option, Some, None, nat_lt, not, is_some, get_or}
+--   IsClassing, no_earlier, classing_none, classing_skip, classing_push, classing_done    the classes of the states up to n
+--   IsSeen, seen_none, seen_push, seen_kept    the states that are in a class
+--   added_none, added_more    the marking of members
+use Rattle.std.proofs.Common.{◌≡◌, ℕ, ◌+◌, ◌⊎◌, inl, inr, ◌<◌, ◌≤◌, Bool, true, false, List, [], ◌∷◌, ◌++◌, length, refl, ap, sym, ◌∙◌, arith, subst}
+use Rattle.std.specs.Prelude.{Contains, ◌↔◌, IsTrue, Option, Some, nat_lt, get_or, replicate, set, slice_get, slice_index_or}
 use Rattle.std.proofs.lemmas.Bool.Decides.{nat_tests}
-use Rattle.std.proofs.lemmas.List.Elements.{Contains-append_left, Contains-push}
-use Rattle.std.proofs.lemmas.Bool.{cases_lt}
+use Rattle.std.proofs.lemmas.List.Elements.{Contains-append_left, Contains-push, Contains-push_cases}
+use Rattle.std.proofs.lemmas.Option.{get_or_from_slice_get}
+use Rattle.std.proofs.lemmas.Bool.{cases_lt, false≢true}
 use Rattle.tensor_laws.proofs.Sets.{name_same}
 use Rattle.list_laws.proofs.Rising.{rising_push}
 use Rattle.list_laws.proofs.Members.{each_push, each_held, each_map}
@@ -17,9 +19,11 @@ use Rattle.tensor_defs.specs.Symbols.{GroupSymbol}
 use Rattle.tensor_defs.specs.Names.{IsNameOf}
 use Rattle.tensor_defs.specs.States.{InDouble, IsState, IsSwappable, AreStates, InPairGroup, InTwinningGroup}
 use Rattle.tensor_defs.specs.PairClasses.{PairClass, IsPairClass, ArePairClasses, least_before}
+use Rattle.magnetic_groups.specs.Marks.{mark_at}
 use Rattle.magnetic_groups.specs.Sets.{In, IsGroup, IsWithin, HaveFrame, FitsFrame}
+use Rattle.magnetic_groups.proofs.Reaching.{no_mark, set_kept, set_new, set_told}
 use Rattle.coset_states.specs.Numbering.{Cosets}
-use Rattle.twin_pairs.specs.Classes.{TellsEarlier, AreMembers, IsClassFrom}
+use Rattle.twin_pairs.specs.Classes.{AreAdded, HasNoEarlier, AreMembers, IsClassFrom}
 use Rattle.twin_pairs.proofs.DoubleCosets.{double_sym, double_trans}
 use Rattle.twin_pairs.proofs.Listings.{state_within}
 
@@ -48,26 +52,67 @@ class_assembled c g k ms b ps ts pn tn is a s p pi t ti = (
   a,
 )
 
--- ---- the answers of the test for an earlier state
-pub none_earlier : (c : Cosets) (g : Operation) (k : ℕ) (r : Option ℕ) (b : Bool) → is_some r ≡ not b → b ≡ true → TellsEarlier c g k r → TellsEarlier c g k None
-none_earlier c g k None b e t h = h
-none_earlier c g k (Some l) true e t h = cc
-none_earlier c g k (Some l) false e t h = cc
-
-abbrev pub IsEarlier : Cosets → Operation → ℕ → Type 0
-IsEarlier c g k = (l : ℕ) × (l < k) × ((s : Operation) × IsState c.reps l s × InDouble (In c.sub) g s)
-
-pub some_earlier : (c : Cosets) (g : Operation) (k : ℕ) (r : Option ℕ) (b : Bool) → is_some r ≡ not b → b ≡ false → TellsEarlier c g k r → IsEarlier c g k
-some_earlier c g k (Some l) b e t h = (l, h.0, h.1)
-some_earlier c g k None true e t h = cc
-some_earlier c g k None false e t h = cc
-
 -- ---- the classes of the states up to n
 pub record IsClassing (c : Cosets) (n : ℕ) (ds : List PairClass) : Type 0 where
   pub each : Each (IsPairClass (In c.whole) (In c.sub) c.reps) ds
   pub rising : IsRising least_before ds
   pub below : Each (λ d. get_or d.members 0 0 ≤ n) ds
   pub whole : (k : ℕ) → 1 ≤ k → k ≤ n → (d : PairClass) × Contains ds d × Contains d.members k
+
+-- ---- the states that are in a class
+pub record IsSeen (ds : List PairClass) (m : List Bool) : Type 0 where
+  pub sized : length m ≡ 129
+  pub seen : (k : ℕ) → (mark_at m k ≡ true) ↔ ((d : PairClass) × Contains ds d × Contains d.members k)
+
+pub seen_none : (ds : List PairClass) (m : List Bool) → ds ≡ [] → m ≡ replicate 129 false → IsSeen ds m
+seen_none ds m e f = record {
+  sized = ap length f;
+  seen = λ k. (
+    λ t. absurd (no_mark 129 k (subst (λ x. mark_at x k ≡ true) f t)),
+    λ h. let b = h.1.1 in let n : length ds ≡ 0 = ap length e in absurd (omega (arith, b, n)),
+  );
+}
+
+pub seen_push : (ds ds' : List PairClass) (x : PairClass) (m m' : List Bool) → IsSeen ds m → ds' ≡ ds ++ x ∷ [] → length m' ≡ 129 → AreAdded x.members (length x.members) m m' → IsSeen ds' m'
+seen_push ds ds' x m m' s e l a = subst (λ y. IsSeen y m') (sym e) (record {
+  sized = l;
+  seen = λ k. (λ t. forth k (a.only k t), λ h. back k h.0 h.2 (Contains-push_cases ds x h.0 h.1));
+})
+  where
+    forth : (k : ℕ) → (mark_at m k ≡ true) ⊎ Contains x.members k → (d : PairClass) × Contains (ds ++ x ∷ []) d × Contains d.members k
+    forth k (inl t) = let h = (s.seen k).0 t in (h.0, Contains-append_left ds (x ∷ []) h.0 h.1, h.2)
+    forth k (inr h) = (x, Contains-push ds x, h)
+
+    back : (k : ℕ) (d : PairClass) → Contains d.members k → Contains ds d ⊎ (x ≡ d) → mark_at m' k ≡ true
+    back k d h (inl c) = a.kept k ((s.seen k).1 (d, c, h))
+    back k d h (inr q) =
+        let h' : Contains x.members k = subst (λ y. Contains y.members k) (sym q) h in
+        subst (λ y. mark_at m' y ≡ true) h'.2 (a.added h'.0 k h'.1)
+
+pub seen_kept : (ds ds' : List PairClass) (m : List Bool) → IsSeen ds m → ds' ≡ ds → IsSeen ds' m
+seen_kept ds ds' m s e = subst (λ y. IsSeen y m) (sym e) s
+
+-- ---- the marking of members
+pub added_none : (ks : List ℕ) (m : List Bool) → AreAdded ks 0 m m
+added_none ks m = record { kept = λ k t. t; added = λ q d h. absurd (omega arith); only = λ k t. inl t }
+
+pub added_more : (ks : List ℕ) (n k : ℕ) (m m' : List Bool) → AreAdded ks n m m' → n < length ks → slice_get ks n ≡ Some k → k < length m' → AreAdded ks (n + 1) m (set m' k true)
+added_more ks n k m m' a h at b = record {
+  kept = λ j t. set_kept m' k j (a.kept j t);
+  added = λ q d l. by q d (cases_lt q n) l;
+  only = λ j t. told j (set_told m' k j t);
+}
+  where
+    by : (q d : ℕ) → (q < n) ⊎ (n ≤ q) → q < n + 1 → mark_at (set m' k true) (slice_index_or ks q d) ≡ true
+    by q d (inl p) l = set_kept m' k (slice_index_or ks q d) (a.added q d p)
+    by q d (inr p) l =
+        let e : q ≡ n = omega arith in
+        let r : slice_index_or ks q d ≡ k = ap (λ x. slice_index_or ks x d) e ∙ get_or_from_slice_get ks n k d at in
+        subst (λ x. mark_at (set m' k true) x ≡ true) (sym r) (set_new m' k b)
+
+    told : (j : ℕ) → (j ≡ k) ⊎ (mark_at m' j ≡ true) → (mark_at m j ≡ true) ⊎ Contains ks j
+    told j (inl e) = inr (n, h, get_or_from_slice_get ks n k j at ∙ sym e)
+    told j (inr t) = a.only j t
 
 module _ (c : Cosets) (ig : IsGroup c.whole) (jf : IsGroup c.sub) (w : IsWithin c.sub c.whole) (a : AreStates (In c.whole) (In c.sub) c.reps) where
   pub classing_none : (ds : List PairClass) → ds ≡ [] → IsClassing c 0 ds
@@ -85,8 +130,14 @@ module _ (c : Cosets) (ig : IsGroup c.whole) (jf : IsGroup c.sub) (w : IsWithin 
       let cr : Contains c.whole p.rep = state_within c.whole c.sub c.reps a p.least p.rep p.rep_is in
       (x, cx, (p.members (n + 1) g ig').1 (double_trans c.whole c.sub ig jf w p.rep s g cr ((p.members l s is).0 cl) (double_sym c.whole c.sub ig jf w g s cg cs d)))
 
-  pub classing_skip : (n : ℕ) (g : Operation) (ds ds' : List PairClass) → IsClassing c n ds → ds' ≡ ds → IsState c.reps (n + 1) g → IsEarlier c g (n + 1) → IsClassing c (n + 1) ds'
-  classing_skip n g ds ds' i e is (l, h, (s, at, d)) = subst (IsClassing c (n + 1)) (sym e) (record {
+  -- a state that is in none of the classes is the least of its class
+  pub no_earlier : (n : ℕ) (g : Operation) (ds : List PairClass) (m : List Bool) → IsClassing c n ds → IsSeen ds m → IsState c.reps (n + 1) g → mark_at m (n + 1) ≡ false → HasNoEarlier c g (n + 1)
+  no_earlier n g ds m i s is e l r at h d =
+      let o : 1 ≤ l = at.0 in
+      false≢true (sym e ∙ (s.seen (n + 1)).1 (joins n l g r ds i.each is at d (i.whole l o (omega arith))))
+
+  pub classing_skip : (n : ℕ) (ds ds' : List PairClass) (m : List Bool) → IsClassing c n ds → IsSeen ds m → ds' ≡ ds → mark_at m (n + 1) ≡ true → IsClassing c (n + 1) ds'
+  classing_skip n ds ds' m i s e t = subst (IsClassing c (n + 1)) (sym e) (record {
     each = i.each;
     rising = i.rising;
     below = more_below n ds i.below;
@@ -97,8 +148,7 @@ module _ (c : Cosets) (ig : IsGroup c.whole) (jf : IsGroup c.sub) (w : IsWithin 
       by k lo hi (inl p) = i.whole k lo (omega arith)
       by k lo hi (inr p) =
           let q : n + 1 ≡ k = omega arith in
-          let o : 1 ≤ l = at.0 in
-          subst (λ m. (x : PairClass) × Contains ds x × Contains x.members m) q (joins n l g s ds i.each is at d (i.whole l o (omega arith)))
+          subst (λ m. (x : PairClass) × Contains ds x × Contains x.members m) q ((s.seen (n + 1)).0 t)
 
   pub classing_push : (n : ℕ) (g : Operation) (ds ds' : List PairClass) (x : PairClass) → IsClassing c n ds → ds' ≡ ds ++ x ∷ [] → IsClassFrom c g (n + 1) x → IsClassing c (n + 1) ds'
   classing_push n g ds ds' x i e f = subst (IsClassing c (n + 1)) (sym e) (record {

@@ -1,7 +1,6 @@
 -- Double cosets of a group in a group, and the pairs of states that an element exchanges.
 --   double_told    f·r in the state of g puts g in FrF
 --   double_from    where g is in FrF, some f·r is in its state
---   member_more, member_found, member_none    the test of a state
 --   swaps_told, swaps_from, swaps_more, swaps_found, swaps_none    exchanged states
 use Rattle.std.proofs.Common.{◌≡◌, ℕ, ◌+◌, ◌⊎◌, inl, inr, ◌<◌, ◌≤◌, Bool, true, false, List, length, refl, ap, sym, ◌∙◌, arith, subst}
 use Rattle.std.specs.Prelude.{Contains, ◌↔◌, IsTrue, slice_index_or}
@@ -50,26 +49,6 @@ module _ (gs fs : List Operation) (ig : IsGroup gs) (jf : IsGroup fs) (w : IsWit
       let c : IsProduct m s'.0 n.0 = product_assoc_back g s.0 s'.0 m n.0 b.0 s.2 b.2 n.2 in
       let d : IsProduct f n.0 m' = product_assoc f m s'.0 k m' n.0 p s'.2 c in
       (a.0, n.0, a.1, (b.0, b.1, n.2), product_assoc_back f' f n.0 a.0 l m' a.2 d p')
-
-  -- ---- the test of a state
-  pub member_more : (reps : List Operation) (r : Operation) (k n : ℕ) (f x : Operation) (b : Bool) → ((q : ℕ) (d y s : Operation) → q < n → IsProduct (slice_index_or fs q d) r y → IsState reps k s → ¬ Times s (In fs) y) → ((d : Operation) → slice_index_or fs n d ≡ f) → IsProduct f r x → ((s : Operation) → IsState reps k s → IsTrue b ↔ Times s (In fs) x) → b ≡ false → (q : ℕ) (d y s : Operation) → q < n + 1 → IsProduct (slice_index_or fs q d) r y → IsState reps k s → ¬ Times s (In fs) y
-  member_more reps r k n f x b i at p t e q d y s h u v = by (cases_lt q n)
-    where
-      by : (q < n) ⊎ (n ≤ q) → ¬ Times s (In fs) y
-      by (inl a) = i q d y s a u v
-      by (inr a) = λ z.
-          let c : q ≡ n = omega arith in
-          let same : y ≡ x = product_unique f r y x (subst (λ g. IsProduct g r y) (ap (λ m. slice_index_or fs m d) c ∙ at d) u) p in
-          false≢true (sym e ∙ (t s v).1 (subst (λ g. Times s (In fs) g) same z))
-
-  pub member_found : (reps : List Operation) (r : Operation) (k : ℕ) (f x g : Operation) (b : Bool) → Contains gs r → ((s : Operation) → IsState reps k s → Contains gs s) → Contains fs f → IsProduct f r x → ((s : Operation) → IsState reps k s → IsTrue b ↔ Times s (In fs) x) → b ≡ true → (s : Operation) × IsState reps k s × Times s (In fs) g → IsTrue true ↔ InDouble (In fs) r g
-  member_found reps r k f x g b cr cs cf p t e (s, is, u) = (λ h. double_told r s g f x cr (cs s is) cf p ((t s is).0 e) u, λ h. refl)
-
-  pub member_none : (reps : List Operation) (r : Operation) (k n : ℕ) (g : Operation) → Contains gs r → ((s : Operation) → IsState reps k s → Contains gs s) → length fs ≤ n → ((q : ℕ) (d y s : Operation) → q < n → IsProduct (slice_index_or fs q d) r y → IsState reps k s → ¬ Times s (In fs) y) → (s : Operation) × IsState reps k s × Times s (In fs) g → IsTrue false ↔ InDouble (In fs) r g
-  member_none reps r k n g cr cs l i (s, is, u) = (λ h. absurd (false≢true h), λ h. absurd (none (double_from r s g cr (cs s is) h u)))
-    where
-      none : (f x : Operation) × Contains fs f × IsProduct f r x × Times s (In fs) x → ⊥
-      none (f, x, cf, p, z) = let h = cf.1 in i cf.0 f x s (omega arith) (subst (λ y. IsProduct y r x) (sym cf.2) p) is z
 
   -- ---- exchanged states
   -- the coset of a member is the group

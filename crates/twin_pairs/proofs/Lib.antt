@@ -1,3 +1,4 @@
 pub mod DoubleCosets
 pub mod Listings
 pub mod Assembly
+mod Marking

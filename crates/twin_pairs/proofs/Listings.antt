@@ -1,6 +1,5 @@
 -- The states of a class in their order.
 --   state_within, state_below    states
---   earlier_more, earlier_found, earlier_done, earlier_none    the first earlier state of the class
 --   IsListed    the members up to n
 use Rattle.std.proofs.Common.{◌≡◌, ℕ, zero, suc, ◌+◌, ◌-◌, ◌⊎◌, inl, inr, ◌<◌, ◌≤◌, Bool, true, false, List, [], ◌∷◌, ◌++◌, length, refl, ap, sym, ◌∙◌, arith, subst}
 use Rattle.std.specs.Prelude.{Contains, ◌↔◌, IsTrue, Some, None, nat_lt}
@@ -16,8 +15,8 @@ use Rattle.tensor_defs.specs.States.{InDouble, IsState, AreStates}
 use Rattle.magnetic_groups.specs.Sets.{In, IsGroup, IsWithin}
 use Rattle.magnetic_groups.proofs.Cosets.{coset_self}
 use Rattle.coset_states.specs.Numbering.{Cosets, TellsState}
-use Rattle.tensor_laws.proofs.States.{one_state, state_at}
-use Rattle.twin_pairs.specs.Classes.{TellsEarlier, AreMembers}
+use Rattle.tensor_laws.proofs.States.{one_state}
+use Rattle.twin_pairs.specs.Classes.{HasNoEarlier, AreMembers}
 use Rattle.twin_pairs.proofs.DoubleCosets.{double_self}
 
 -- ---- states
@@ -36,25 +35,6 @@ module _ (c : Cosets) (g : Operation) (ig : IsGroup c.whole) (jf : IsGroup c.sub
   at_state : (k : ℕ) (b : Bool) → Tells k b → (s : Operation) → IsState c.reps k s → IsTrue b ↔ InDouble (In c.sub) g s
   at_state k b t s is = t s (s, is, coset_self c.whole c.sub s ig jf (state_within c.whole c.sub c.reps a k s is))
 
-  -- ---- the first earlier state of the class
-  pub earlier_more : (n : ℕ) (b : Bool) → TellsEarlier c g n None → Tells n b → b ≡ false → TellsEarlier c g (n + 1) None
-  earlier_more n b i t e l s is h = by (cases_lt l n)
-    where
-      by : (l < n) ⊎ (n ≤ l) → ¬ InDouble (In c.sub) g s
-      by (inl p) = i l s is p
-      by (inr p) = λ d. let q : l ≡ n = omega arith in false≢true (sym e ∙ (at_state n b t s (subst (λ m. IsState c.reps m s) q is)).1 d)
-
-  pub earlier_found : (n k : ℕ) (b : Bool) → 1 ≤ n → n < k → k ≤ length c.reps → Tells n b → b ≡ true → TellsEarlier c g k (Some n)
-  earlier_found n k b lo hi top t e =
-      let s : (s : Operation) × IsState c.reps n s = state_at c.reps n lo (omega arith) in
-      (hi, (s.0, s.1, (at_state n b t s.0 s.1).0 e))
-
-  pub earlier_done : (n k : ℕ) → k ≤ n → TellsEarlier c g n None → TellsEarlier c g k None
-  earlier_done n k h i l s is m = i l s is (omega arith)
-
-  pub earlier_none : TellsEarlier c g 1 None
-  earlier_none l s is h = let o = is.0 in absurd (omega arith)
-
   -- ---- the members up to n
   pub record IsListed (k n : ℕ) (ms : List ℕ) : Type 0 where
     pub others : List ℕ
@@ -68,7 +48,7 @@ module _ (c : Cosets) (g : Operation) (ig : IsGroup c.whole) (jf : IsGroup c.sub
   only k l (zero, h, e) = e
   only k l (suc q, h, e) = absurd (omega arith)
 
-  pub listed_one : (k : ℕ) (ms : List ℕ) → ms ≡ k ∷ [] → IsState c.reps k g → Contains c.whole g → TellsEarlier c g k None → IsListed k k ms
+  pub listed_one : (k : ℕ) (ms : List ℕ) → ms ≡ k ∷ [] → IsState c.reps k g → Contains c.whole g → HasNoEarlier c g k → IsListed k k ms
   listed_one k ms e is cg first = subst (IsListed k k) (sym e) (record {
     others = [];
     begins = refl;

@@ -1,17 +1,20 @@
 -- Pair classes of the code, and what their parts tell.
 --   class_of       a class of the code as a class of the definitions
---   TellsEarlier   a state before a state that lies in a double coset, or that there is none
+--   HasNoEarlier   no state before a number lies in a double coset
+--   AreMarked      the states that lie in a double coset are marked
+--   AreAdded       the first n of some numbers are marked, and no others that weren't
 --   AreMembers     the states of a double coset, where a state is the least
 --   IsClassFrom    the class of a state that is the least of its class
 -- Source: International Tables D 3.4.
-use Rattle.std.specs.Prelude.{◌≡◌, ℕ, ◌<◌, ◌≤◌, List, ◌∷◌, length, Contains, ◌↔◌, nat_lt, Option, Some, None}
+use Rattle.std.specs.Prelude.{◌≡◌, ℕ, ◌<◌, ◌≤◌, Bool, true, List, ◌∷◌, length, Contains, ◌↔◌, ◌⊎◌, nat_lt, slice_index_or, Some}
 use Rattle.tensor_defs.specs.Lists.{Each, IsRising}
 use Rattle.tensor_defs.specs.Operation.{Operation}
 use Rattle.tensor_defs.specs.States.{IsState, InDouble}
 use Rattle.tensor_defs.specs.PairClasses as defs
 use Rattle.tensor_defs.specs.PairClasses.{IsPairClass}
+use Rattle.magnetic_groups.specs.Marks.{mark_at}
 use Rattle.magnetic_groups.specs.Sets.{In}
-use Rattle.coset_states.specs.Numbering.{Cosets}
+use Rattle.coset_states.specs.Numbering.{Cosets, TellsState}
 use Rattle.twin_pairs.specs.declared.PairClass.{PairClass}
 
 abbrev pub class_of : PairClass → defs.PairClass
@@ -24,9 +27,17 @@ class_of c = record {
   twin_name = c.twin_name;
 }
 
-abbrev pub TellsEarlier : Cosets → Operation → ℕ → Option ℕ → Type 0
-TellsEarlier c g k None = (l : ℕ) (s : Operation) → IsState c.reps l s → l < k → ¬ InDouble (In c.sub) g s
-TellsEarlier c g k (Some l) = (l < k) × ((s : Operation) × IsState c.reps l s × InDouble (In c.sub) g s)
+abbrev pub HasNoEarlier : Cosets → Operation → ℕ → Type 0
+HasNoEarlier c g k = (l : ℕ) (s : Operation) → IsState c.reps l s → l < k → ¬ InDouble (In c.sub) g s
+
+pub record AreMarked (c : Cosets) (g : Operation) (m : List Bool) : Type 0 where
+  pub sized : length m ≡ 129
+  pub tells : (k : ℕ) (x : Operation) → TellsState c x (Some k) → (mark_at m k ≡ true) ↔ InDouble (In c.sub) g x
+
+pub record AreAdded (ks : List ℕ) (n : ℕ) (m m' : List Bool) : Type 0 where
+  pub kept : (k : ℕ) → mark_at m k ≡ true → mark_at m' k ≡ true
+  pub added : (q d : ℕ) → q < n → mark_at m' (slice_index_or ks q d) ≡ true
+  pub only : (k : ℕ) → mark_at m' k ≡ true → (mark_at m k ≡ true) ⊎ Contains ks k
 
 pub record AreMembers (c : Cosets) (g : Operation) (k : ℕ) (ms : List ℕ) : Type 0 where
   pub others : List ℕ

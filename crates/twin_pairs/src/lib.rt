@@ -3,12 +3,14 @@
 #![tactic(auto)]
 
 ghost use Rattle.std.specs.Prelude.{◌≡◌, ◌≤◌, ◌<◌, ◌↔◌, ℕ, IsTrue, IfOk, length, Contains, slice_get, Some, None, [], ◌∷◌, ◌++◌, map};
-ghost use Rattle.tensor_defs.specs.Operation.{Operation};
-ghost use Rattle.tensor_defs.specs.States.{InDouble, IsState, IsSwappable};
+ghost use Rattle.tensor_defs.specs.Lists.{Each};
+ghost use Rattle.tensor_defs.specs.Operation.{Operation, IsProduct};
+ghost use Rattle.tensor_defs.specs.States.{IsState, IsSwappable, Times};
 ghost use Rattle.tensor_defs.specs.PairClasses.{ArePairClasses};
-ghost use Rattle.magnetic_groups.specs.Sets.{In};
+ghost use Rattle.tensor_defs.specs.Names.{IsNameOf};
+ghost use Rattle.magnetic_groups.specs.Sets.{In, IsWithin};
 ghost use Rattle.coset_states.specs.Numbering.{TellsState};
-ghost use Rattle.twin_pairs.specs.Classes.{AreMembers, IsClassFrom, TellsEarlier, class_of};
+ghost use Rattle.twin_pairs.specs.Classes.{AreAdded, AreMarked, AreMembers, HasNoEarlier, IsClassFrom, class_of};
 
 #[cfg(test)]
 mod tests;
@@ -91,40 +93,37 @@ pub struct PairClass {
     pub twin_name: Option<SymbolTree>,
 }
 
-/// Whether a state lies in the double coset of an element.
-fn is_member(states: &States, element: &Op, k: usize) -> bool
-    requires from_one { 1 ≤ k }
-    requires to_count { k ≤ length states.now.reps }
+/// The state in which the product of an element of the subgroup and another element lies.
+fn state_of_product(states: &States, member: &Op, element: &Op) -> usize
+    requires member { Contains states.now.sub member.now }
     requires inside { Contains states.now.whole element.now }
-    ensures { (g : Operation) → TellsState states.now g (Some k) → IsTrue result ↔ InDouble (In states.now.sub) element.now g }
+    ensures few { result ≤ 128 }
+    ensures state { (g : Operation) → IsProduct member.now element.now g → TellsState states.now g (Some result) }
+    ensures only { (g r : Operation) (k : ℕ) → IsProduct member.now element.now g → IsState states.now.reps k r → Times r (In states.now.sub) g → k ≡ result }
 {
-    // what the count tells of the places is for the proof
+    // what the count tells of the groups is for the proof
     let _count = states.count();
-    let sub = states.sub();
-    for place in 0..sub.len() {
-        let member = sub.at(place);
-        let product = member.product(element);
-        if states.has(k, &product) {
-            return true;
-        }
-    }
-    false
+    let product = member.product(element);
+    let Some(state) = states.state_of(&product) else {
+        unreachable!()
+    };
+    state
 }
 
-/// The first state before a state that lies in the double coset of an element.
-fn first_earlier(states: &States, element: &Op, k: usize) -> Option<usize>
-    requires to_count { k ≤ length states.now.reps }
-    requires inside { Contains states.now.whole element.now }
-    ensures { TellsEarlier states.now element.now k result }
+/// Marks the states that lie in the double coset of an element, each at the place of its number.
+fn mark_states(states: &States, element: &Op) -> [bool; 129]
+    requires { Contains states.now.whole element.now }
+    ensures { AreMarked states.now element.now result }
 {
-    // what the count tells of the places is for the proof
+    // what the count tells of the groups is for the proof
     let _count = states.count();
-    for earlier in 1..k {
-        if is_member(states, element, earlier) {
-            return Some(earlier);
-        }
+    let mut marks = [false; 129];
+    let sub = states.sub();
+    for place in 0..sub.len() {
+        let state = state_of_product(states, &sub.at(place), element);
+        marks[state] = true;
     }
-    None
+    marks
 }
 
 /// The numbers of the states in the double coset of the representative of state `k`, the least of them.
@@ -137,17 +136,30 @@ fn list_members(
     requires least { IsState states.now.reps k element.now }
     requires to_count { k ≤ length states.now.reps }
     requires inside { Contains states.now.whole element.now }
-    requires first { TellsEarlier states.now element.now k None }
+    requires first { HasNoEarlier states.now element.now k }
     ensures { IfOk result (AreMembers states.now element.now k) }
 {
+    let marks = mark_states(states, element);
     let mut numbers = Vec::new(alloc);
     numbers.push(k)?;
     for place in k..states.count() {
-        if is_member(states, element, place + 1) {
+        if marks[place + 1] {
             numbers.push(place + 1)?;
         }
     }
     Ok(Members { numbers })
+}
+
+/// Marks the members of a class, each at the place of its number.
+fn mark_members(members: &Members, marks: &mut [bool])
+    requires sized { length marks.old ≡ 129 }
+    requires few { Each (λ k. k ≤ 128) members.now }
+    ensures sized { length marks.new ≡ 129 }
+    ensures added { AreAdded members.now (length members.now) marks.old marks.new }
+{
+    for place in 0..members.len() {
+        marks[members.at(place)] = true;
+    }
 }
 
 /// Whether some element of the whole group exchanges the first state and that of the element.
@@ -169,12 +181,36 @@ fn is_swappable(states: &States, element: &Op) -> bool
     false
 }
 
+/// The name of a pair group. Where it is the whole subgroup, its name is known.
+fn pair_name(
+    alloc: Global,
+    sub: &Group,
+    sub_name: &Option<SymbolTree>,
+    pair_group: &Group,
+) -> Result<Option<SymbolTree>, NoMemory>
+    requires named { IsNameOf sub_name.now (In sub.now) }
+    requires below { IsWithin pair_group.now sub.now }
+    ensures { IfOk result (λ o. IsNameOf o (In pair_group.now)) }
+{
+    if sub.is_subset(pair_group) {
+        return Ok(*sub_name);
+    }
+    Ok(name_of(alloc, pair_group)?)
+}
+
 /// The class of the state `k`, the least of its class.
-fn pair_class(alloc: Global, states: &States, element: &Op, k: usize) -> Result<PairClass, NoMemory>
+fn pair_class(
+    alloc: Global,
+    states: &States,
+    sub_name: &Option<SymbolTree>,
+    element: &Op,
+    k: usize,
+) -> Result<PairClass, NoMemory>
+    requires named { IsNameOf sub_name.now (In states.now.sub) }
     requires least { IsState states.now.reps k element.now }
     requires to_count { k ≤ length states.now.reps }
     requires inside { Contains states.now.whole element.now }
-    requires first { TellsEarlier states.now element.now k None }
+    requires first { HasNoEarlier states.now element.now k }
     ensures { IfOk result (λ c. IsClassFrom states.now element.now k (class_of c)) }
 {
     // what the count tells of the places is for the proof
@@ -183,7 +219,7 @@ fn pair_class(alloc: Global, states: &States, element: &Op, k: usize) -> Result<
     let swappable = is_swappable(states, element);
     let sub = states.sub();
     let pair_group = sub.meet_conjugate(alloc, element)?;
-    let pair_name = name_of(alloc, &pair_group)?;
+    let pair_name = pair_name(alloc, sub, sub_name, &pair_group)?;
     let twin_group = sub.joined(alloc, element)?;
     let twin_name = name_of(alloc, &twin_group)?;
     Ok(PairClass {
@@ -208,11 +244,14 @@ fn append(classes: &mut Vec<PairClass>, class: PairClass) -> Result<(), AllocErr
 pub fn pair_classes(alloc: Global, states: &States) -> Result<Vec<PairClass>, NoMemory>
     ensures { IfOk result (λ v. ArePairClasses (In states.now.whole) (In states.now.sub) states.now.reps (map class_of v.items)) }
 {
+    let sub_name = name_of(alloc, states.sub())?;
     let mut classes = Vec::new(alloc);
+    let mut seen = [false; 129];
     for place in 0..states.count() {
-        let element = states.representative(place + 1);
-        if first_earlier(states, &element, place + 1).is_none() {
-            let class = pair_class(alloc, states, &element, place + 1)?;
+        if !seen[place + 1] {
+            let element = states.representative(place + 1);
+            let class = pair_class(alloc, states, &sub_name, &element, place + 1)?;
+            mark_members(&class.members, &mut seen);
             append(&mut classes, class)?;
         }
     }

@@ -1,5 +1,6 @@
-use Rattle.std.proofs.Common.{◌<◌, [], ◌∷◌, ◌++◌, length, ◌∙◌, ap, subst, arith}
-use Rattle.twin_pairs.proofs.list_members.Goals.{then-is_member+in_ok-push-2, else-is_member}
+use Rattle.std.proofs.Common.{◌<◌, ◌+◌, [], ◌∷◌, ◌++◌, length, ◌∙◌, ap, subst, arith}
+use Rattle.magnetic_groups.specs.Marks.{mark_at}
+use Rattle.twin_pairs.proofs.list_members.Goals.{then-marks-place+in_ok-push-2, else-marks-place}
 use Rattle.twin_pairs.proofs.Listings.{listed_one, listed_push, listed_skip, listed_done}
 use Rattle.twin_pairs.proofs.list_members.Goals as goal
 
@@ -7,9 +8,9 @@ pub loop-place-init : goal.loop-place-init
 loop-place-init c = λ i j w a. listed_one c.args.states.now c.args.element.now i j w a c.args.k c.push.new.self.items (c.in_ok-push.ensures.items ∙ ap (λ xs. xs ++ c.args.k ∷ []) c.new-numbers.ensures.items) c.requires.least c.requires.inside c.requires.first
 
 pub loop-place-preserved : goal.loop-place-preserved
-loop-place-preserved c = λ i j w a. elim c.if-is_member.branch [
-  | then-is_member+in_ok-push-2 y ↦ listed_push c.args.states.now c.args.element.now i j w a c.args.k c.loop-place.place c.loop-place.numbers.items c.if-is_member.numbers.items c.is_member.result (c.loop-place.invariant i j w a) (let h : c.loop-place.place < length c.args.states.now.reps = subst (λ x. c.loop-place.place < x) c.count-place-end.ensures.is c.loop-place-test.true in h) (ap (λ v. v.items) y.numbers-is ∙ y.in_ok-push-2.ensures.items) c.is_member.ensures y.if-is_member.true
-  | else-is_member y ↦ listed_skip c.args.states.now c.args.element.now i j w a c.args.k c.loop-place.place c.loop-place.numbers.items c.if-is_member.numbers.items c.is_member.result (c.loop-place.invariant i j w a) (ap (λ v. v.items) y.numbers-is) c.is_member.ensures y.if-is_member.false
+loop-place-preserved c = λ i j w a. elim c.if-marks-place.branch [
+  | then-marks-place+in_ok-push-2 y ↦ listed_push c.args.states.now c.args.element.now i j w a c.args.k c.loop-place.place c.loop-place.numbers.items c.if-marks-place.numbers.items (mark_at c.mark_states-marks.result (c.loop-place.place + 1)) (c.loop-place.invariant i j w a) (let h : c.loop-place.place < length c.args.states.now.reps = subst (λ x. c.loop-place.place < x) c.count-place-end.ensures.is c.loop-place-test.true in h) (ap (λ v. v.items) y.numbers-is ∙ y.in_ok-push-2.ensures.items) (c.mark_states-marks.ensures.tells (c.loop-place.place + 1)) y.if-marks-place.true
+  | else-marks-place y ↦ listed_skip c.args.states.now c.args.element.now i j w a c.args.k c.loop-place.place c.loop-place.numbers.items c.if-marks-place.numbers.items (mark_at c.mark_states-marks.result (c.loop-place.place + 1)) (c.loop-place.invariant i j w a) (ap (λ v. v.items) y.numbers-is) (c.mark_states-marks.ensures.tells (c.loop-place.place + 1)) y.if-marks-place.false
 ]
 
 pub returns : goal.returns

@@ -3,6 +3,7 @@ use Rattle.magnetic_groups.specs.Sets.{In, FitsFrame}
 use Rattle.tensor_defs.specs.Lists.{IsListing}
 use Rattle.tensor_defs.specs.OperationOrder.{comes_before}
 use Rattle.tensor_defs.specs.States.{InPairGroup, InTwinningGroup}
+use Rattle.tensor_defs.specs.Names.{IsNameOf}
 use Rattle.twin_pairs.proofs.Assembly.{fits_of, class_assembled}
 use Rattle.twin_pairs.proofs.pair_class.Goals as goal
 
@@ -21,3 +22,10 @@ returns c =
     c.in_ok-pair_name.ensures
     (subst (λ xs. IsListing comes_before (InTwinningGroup (In xs) c.args.element.now) c.in_ok-twin_group.twin_group) c.sub-sub.ensures c.in_ok-twin_group.ensures)
     c.in_ok-twin_name.ensures
+
+pub pair_name-requires-clause-named : goal.pair_name-requires-clause-named
+pair_name-requires-clause-named c =
+    subst (λ xs. IsNameOf c.args.sub_name.now (In xs)) (sym c.sub-sub.ensures) c.requires.named
+
+pub pair_name-requires-clause-below : goal.pair_name-requires-clause-below
+pair_name-requires-clause-below c = λ k h. ((c.in_ok-pair_group.ensures.members k).0 h).0

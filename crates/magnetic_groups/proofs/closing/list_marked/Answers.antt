@@ -6,7 +6,7 @@ use Rattle.magnetic_groups.proofs.closing.list_marked.Goals.{then-marks-place+in
 
 pub loop-place-init : goal.loop-place-init
 unfolding marked_below
-loop-place-init c = c.new-elements.ensures.items
+loop-place-init c = c.in_ok-elements.ensures.items
 
 pub loop-place-preserved : goal.loop-place-preserved
 loop-place-preserved c = elim c.if-marks-place.branch [
