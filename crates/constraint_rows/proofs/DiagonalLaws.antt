@@ -3,7 +3,8 @@
 --   own_coefficient, turns_by, not_turns_by    it carries each component to itself
 --   own_carried, killed_along    an exchange of blocks leaves the coefficient from a component to itself
 --   killed_at, killed_none, entry_more    an element of a list kills
-use Rattle.std.proofs.Common.{◌≡◌, ◌≢◌, ℕ, ◌+◌, ◌<◌, ◌^◌, false, List, [], ◌∷◌, ◌++◌, length, get_or, refl, ap, sym, ◌∙◌, arith, subst, inl, inr}
+--   diagonals_start, diagonals_skip, diagonals_more, diagonal_columns, turned_marked    the diagonal elements by their rows
+use Rattle.std.proofs.Common.{◌≡◌, ◌≢◌, ℕ, ◌+◌, ◌<◌, ◌^◌, false, List, [], ◌∷◌, ◌++◌, length, length-append, get_or, refl, ap, sym, ◌∙◌, arith, subst, inl, inr}
 use Rattle.std.proofs.lemmas.Bool.{cases_lt}
 use Rattle.std.proofs.lemmas.List.{get_or_append_left, get_or_default, get_or_push}
 use Rattle.number_laws.proofs.Sameness.{one_not_zero}
@@ -13,6 +14,8 @@ use Rattle.tensor_defs.specs.Jahn.{Bracket, IsExchange, JahnSymbol}
 use Rattle.tensor_defs.specs.Number.{Number, mul, neg, num_zero, num_one}
 use Rattle.tensor_defs.specs.Operation.{Axis, x1, x2, x3, Operation, entry, nought, value, identity}
 use Rattle.tensor_defs.specs.Tensor.{Index, Marks, axis_place, axis_at, coefficient, index_of, sign}
+use Rattle.std.specs.Prelude.{Contains, ◌↔◌}
+use Rattle.tensor_defs.specs.declared.Sign.{Sign}
 use Rattle.tensor_defs.specs.declared.Sign.TheVariants.{Plus, Minus}
 use Rattle.magnetic_groups.specs.Sets.{In}
 use Rattle.sign_moves.specs.declared.classes.Entry.{Entry}
@@ -22,8 +25,8 @@ use Rattle.sign_moves.proofs.SignLaws.{own_negative, sign_not_zero, signed-signe
 use Rattle.tensor_rank.specs.Carried.{Carried, rests, steps}
 use Rattle.constraint_rows.specs.declared.ops.PlainOp.{PlainOp}
 use Rattle.constraint_rows.specs.Classes.{GroupStep, exchange, turn}
-use Rattle.constraint_rows.specs.Marking.{Kills, Turns}
-use Rattle.constraint_rows.specs.PlainOps.{StandsFor, image, op_sign}
+use Rattle.constraint_rows.specs.Marking.{AreDiagonals, IsMarked, IsTurned, IsTurnedEntry, Kills, Turns}
+use Rattle.constraint_rows.specs.PlainOps.{AllHaveColumns, StandsFor, image, op_at, op_sign}
 use Rattle.constraint_rows.specs.WordRows.{IsKilled}
 use Rattle.constraint_rows.proofs.OpIndex.{moved, coefficient_own, list_signs, sign_number, signed_mul}
 use Rattle.constraint_rows.proofs.StandLaws.{zero_number}
@@ -167,3 +170,84 @@ entry_more P es e n len each last k h =
           let same : n ≡ k = omega (arith, h, l) in
           subst (P k) (sym (get_or_push es e none k (len ∙ same))) (subst (λ i. P i e) same last)
     ]
+
+-- ---- the diagonal elements by their rows
+abbrev none : PlainOp
+none = record { images = []; negates = []; whole = Plus }
+
+pub diagonals_start : (m : Marks) (hs : List Operation) → AreDiagonals m hs 0 []
+diagonals_start m hs = record { found = λ k l. absurd (omega arith); all = λ k l. absurd (omega arith) }
+
+pub diagonals_skip : (m : Marks) (hs : List Operation) (place : ℕ) (ps : List PlainOp) (g : Operation) → get_or hs place identity ≡ g → (IsDiagonal g → ⊥) →
+    AreDiagonals m hs place ps → AreDiagonals m hs (place + 1) ps
+diagonals_skip m hs place ps g at away h = record {
+  found = h.found;
+  all = λ k l d. elim (cases_lt k place) as (λ _. (i : ℕ) × (i < length ps) × StandsFor m (get_or hs k identity) (op_at ps i)) [
+    | inl p ↦ h.all k p d
+    | inr p ↦
+        let same : k ≡ place = omega arith in
+        absurd (away (subst IsDiagonal (ap (λ i. get_or hs i identity) same ∙ at) d))
+  ];
+}
+
+pub diagonals_more : (m : Marks) (hs : List Operation) (place : ℕ) (ps : List PlainOp) (g : Operation) (p : PlainOp) → get_or hs place identity ≡ g → Contains hs g → IsDiagonal g →
+    StandsFor m g p → AreDiagonals m hs place ps → AreDiagonals m hs (place + 1) (ps ++ p ∷ [])
+diagonals_more m hs place ps g p at inside diagonal stands h =
+    let long : length (ps ++ p ∷ []) ≡ length ps + 1 = length-append ps (p ∷ []) in
+    let last : op_at (ps ++ p ∷ []) (length ps) ≡ p = get_or_push ps p none (length ps) refl in
+    record {
+      found = λ k l. elim (cases_lt k (length ps)) as (λ _. (x : Operation) × In hs x × IsDiagonal x × StandsFor m x (op_at (ps ++ p ∷ []) k)) [
+        | inl b ↦
+            let was = h.found k b in
+            (was.0, was.1, was.2, subst (StandsFor m was.0) (sym (get_or_append_left ps (p ∷ []) none k b)) was.3)
+        | inr b ↦
+            let same : length ps ≡ k = omega arith in
+            (g, inside, diagonal, subst (λ (i : ℕ). StandsFor m g (op_at (ps ++ p ∷ []) i)) same (subst (StandsFor m g) (sym last) stands))
+      ];
+      all = λ k l d. elim (cases_lt k place) as (λ _. (i : ℕ) × (i < length (ps ++ p ∷ [])) × StandsFor m (get_or hs k identity) (op_at (ps ++ p ∷ []) i)) [
+        | inl b ↦
+            let was = h.all k b d in
+            let low : was.0 < length ps = was.1 in
+            (was.0, omega arith, subst (StandsFor m (get_or hs k identity)) (sym (get_or_append_left ps (p ∷ []) none was.0 low)) was.2)
+        | inr b ↦
+            let same : place ≡ k = omega arith in
+            (length ps, omega arith, subst (λ (x : Operation). StandsFor m x (op_at (ps ++ p ∷ []) (length ps))) (sym at ∙ ap (λ i. get_or hs i identity) same) (subst (StandsFor m g) (sym last) stands))
+      ];
+    }
+
+pub diagonal_columns : (m : Marks) (hs : List Operation) (place : ℕ) (ps : List PlainOp) → AreDiagonals m hs place ps → AllHaveColumns ps
+diagonal_columns m hs place ps h = record { each = λ k l. (h.found k l).3.permutation.columns }
+
+-- an operation that turns a component round stands for a diagonal element that does
+turned_killed : (m : Marks) (hs : List Operation) (ps : List PlainOp) → AreDiagonals m hs (length hs) ps → (n r c : ℕ) → n ≡ 3 ^ r → c < n →
+    IsTurned r ps c ↔ IsKilled m (In hs) (index_of r c)
+turned_killed m hs ps h n r c size l = (there, back)
+  where
+    there : IsTurned r ps c → IsKilled m (In hs) (index_of r c)
+    there t =
+        let f = h.found t.0 t.1 in
+        record { element = f.0; inside = f.1; diagonal = f.2; turns = (turns_by f.2 f.3 n r c size l t.2).turns }
+
+    by_sign : (i : ℕ) → i < length ps → (g : Operation) → IsDiagonal g → StandsFor m g (op_at ps i) → Turns m (index_of r c) g → (s : Sign) → op_sign r (op_at ps i) c ≡ s → IsTurned r ps c
+    by_sign i b g d st t Minus e = (i, b, e)
+    by_sign i b g d st t Plus e = absurd (not_turns_by d st n r c size l e t)
+
+    back : IsKilled m (In hs) (index_of r c) → IsTurned r ps c
+    back k =
+        let p = k.inside.0 in
+        let at : get_or hs p identity ≡ k.element = get_or_default hs p identity k.element k.inside.1 ∙ k.inside.2 in
+        let f = h.all p k.inside.1 (subst IsDiagonal (sym at) k.diagonal) in
+        by_sign f.0 f.1 (get_or hs p identity) (subst IsDiagonal (sym at) k.diagonal) f.2 (subst (Turns m (index_of r c)) (sym at) (record { turns = k.turns })) (op_sign r (op_at ps f.0) c) refl
+
+pub turned_marked : (m : Marks) (hs : List Operation) (ps : List PlainOp) → AreDiagonals m hs (length hs) ps → (n r : ℕ) (old new : Entry) → n ≡ 3 ^ r → old.first < n →
+    IsTurnedEntry r ps old new → IsMarked r m hs old new
+turned_marked m hs ps h n r old new size l t =
+    let same = turned_killed m hs ps h n r old.first size l in
+    record {
+      same_first = t.same_first;
+      same_sign = t.same_sign;
+      vanishes = (
+        λ v. elim (t.vanishes.0 v) [ inl a ↦ inl a | inr b ↦ inr (same.0 b) ],
+        λ v. elim v [ inl a ↦ t.vanishes.1 (inl a) | inr b ↦ t.vanishes.1 (inr (same.1 b)) ],
+      );
+    }

@@ -1,6 +1,6 @@
 //! The classes of components on the hexagonal axes: those under the exchanges of a symbol's blocks, less the components
 //! that a diagonal element of a group turns round.
-ghost use Rattle.std.specs.Prelude.{◌≡◌, ℕ, ◌<◌, ◌↔◌, IfOk, IsTrue, length};
+ghost use Rattle.std.specs.Prelude.{◌≡◌, ℕ, ◌+◌, ◌<◌, ◌↔◌, IfOk, OnOk, IsTrue, length};
 ghost use Rattle.tensor_defs.specs.Elimination.{AreRepresentatives};
 ghost use Rattle.tensor_defs.specs.Frames.{IsDiagonal};
 ghost use Rattle.tensor_defs.specs.Jahn.{JahnSymbol};
@@ -10,10 +10,12 @@ ghost use Rattle.sign_moves.specs.Classes.{first_at};
 ghost use Rattle.tensor_rank.specs.Flags.{marks_of};
 ghost use Rattle.tensor_rank.specs.Orders.{before_at, before_of};
 ghost use Rattle.tensor_rank.specs.Shapes.{IsShapeOf};
-ghost use Rattle.constraint_rows.specs.Marking.{AreMarked, IsMarked, Kills, Turns};
+ghost use Rattle.constraint_rows.specs.Marking.{AreDiagonals, AreMarked, IsTurned, IsTurnedEntry, Kills, Turns};
+ghost use Rattle.constraint_rows.specs.PlainOps.{AllHaveColumns};
 ghost use Rattle.constraint_rows.specs.WordRows.{AreSound, IsKilled, carrier_of};
 
 use crate::classing::Classes;
+use crate::ops::PlainOp;
 use crate::reading::plain_of;
 use magnetic_groups::Group;
 use op_matrix::Op;
@@ -55,16 +57,61 @@ pub fn killed_by_diagonal<R: Rank>(group: &Group, flags: Flags, c: Comp<R>) -> b
     false
 }
 
-/// An entry, marked to vanish also where a diagonal element turns its first component round.
-fn marked_entry<R: Rank>(entry: Entry, group: &Group, flags: Flags) -> Entry
-    requires { entry.first < R.LEN }
-    ensures { IsMarked R.R (marks_of flags) group.now entry result }
+/// Takes the element at a place of a group, by its rows, if it is diagonal.
+fn take_diagonal(
+    ops: &mut Vec<PlainOp>,
+    group: &Group,
+    flags: Flags,
+    place: usize,
+) -> Result<(), NoMemory>
+    requires place { place < length group.now }
+    requires ops { AreDiagonals (marks_of flags) group.now place ops.old.items }
+    ensures { OnOk result (AreDiagonals (marks_of flags) group.now (place + 1) ops.new.items) }
 {
-    let killed = killed_by_diagonal::<R>(group, flags, Comp::at(entry.first as usize));
+    let op = group.at(place);
+    if !op.is_diagonal() {
+        return Ok(());
+    }
+    ops.push(plain_of(&op, flags))?;
+    Ok(())
+}
+
+/// The diagonal elements of a group by their rows, with the signs that tensors with these marks take.
+fn diagonal_ops(alloc: Global, group: &Group, flags: Flags) -> Result<Vec<PlainOp>, NoMemory>
+    ensures { IfOk result (λ ops. AreDiagonals (marks_of flags) group.now (length group.now) ops.items) }
+{
+    let mut ops = Vec::new(alloc);
+    for place in 0..group.len() {
+        take_diagonal(&mut ops, group, flags, place)?;
+    }
+    Ok(ops)
+}
+
+/// Whether one of these operations carries a component with the sign -1.
+fn is_turned<R: Rank>(ops: &[PlainOp], c: Comp<R>) -> bool
+    requires columns { AllHaveColumns ops.now }
+    requires component { c < R.LEN }
+    ensures { IsTrue result ↔ IsTurned R.R ops.now c }
+{
+    for place in 0..ops.len() {
+        if ops[place].carry(c).1 == Sign::Minus {
+            return true;
+        }
+    }
+    false
+}
+
+/// An entry, marked to vanish also where one of these operations turns its first component round.
+fn marked_entry<R: Rank>(entry: Entry, ops: &[PlainOp]) -> Entry
+    requires columns { AllHaveColumns ops.now }
+    requires component { entry.first < R.LEN }
+    ensures { IsTurnedEntry R.R ops.now entry result }
+{
+    let turned = is_turned::<R>(ops, Comp::at(entry.first as usize));
     Entry {
         first: entry.first,
         sign: entry.sign,
-        vanishes: entry.vanishes || killed,
+        vanishes: entry.vanishes || turned,
     }
 }
 
@@ -78,9 +125,10 @@ fn marked_table<R: Rank>(
     requires { (c : ℕ) → c < length table.now → first_at table.now c < R.LEN }
     ensures { IfOk result (λ new. AreMarked R.R (marks_of flags) group.now table.now new.items) }
 {
-    let mut marked = Vec::new(alloc);
+    let ops = diagonal_ops(alloc, group, flags)?;
+    let mut marked = Vec::with_capacity(alloc, table.len())?;
     for number in 0..table.len() {
-        marked.push(marked_entry::<R>(table[number], group, flags))?;
+        marked.push(marked_entry::<R>(table[number], &ops))?;
     }
     Ok(marked)
 }

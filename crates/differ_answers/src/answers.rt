@@ -74,7 +74,7 @@ fn write_text<R: Rank>(
     ensures longer { IsLonger out.old.items out.new.items }
     ensures capacity { vec_capacity out.old ≤ vec_capacity out.new }
 {
-    write_header(alloc, g, f, jahn, states.count(), form, out)?;
+    write_header(g, f, jahn, states.count(), form, out)?;
     write_states(alloc, states, form, shape, out)
 }
 

@@ -11,7 +11,7 @@ ghost use Rattle.differ_answers.specs.Texts.{named_terms};
 use crate::faults::NoMemory;
 use crate::terms::term_of;
 use answer_writers::append_to;
-use reduced_form::{Form, name_of};
+use reduced_form::{Form, name_bytes};
 use state_marks::RootTerm;
 use std::alloc::Global;
 use tensor_rank::{Comp, Rank};
@@ -75,7 +75,8 @@ pub fn write_equation<R: Rank>(
     ensures longer { IsLonger out.old.items out.new.items }
     ensures capacity { vec_capacity out.old ≤ vec_capacity out.new }
 {
-    append_to(out, name_of(alloc, c).as_slice())?;
+    let name = name_bytes(c);
+    append_to(out, &name[..R::R + 1])?;
     append_to(out, b" = ")?;
     write_sum(alloc, form, row, out)?;
     append_to(out, b"\n")?;

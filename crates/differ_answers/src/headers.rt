@@ -15,8 +15,7 @@ use answer_writers::append_to;
 use group_symbol::{SymbolTree, write_group};
 use itoa::Buffer;
 use jahn_grammar::{Jahn, write_jahn};
-use reduced_form::{Form, name_of};
-use std::alloc::Global;
+use reduced_form::{Form, name_bytes};
 use tensor_rank::Rank;
 
 /// Appends a number.
@@ -38,7 +37,7 @@ fn gap(place: usize) -> &'static [u8]
 }
 
 /// Appends the names of the free components, or none.
-fn write_free<R: Rank>(alloc: Global, form: &Form<R>, out: &mut Vec<u8>) -> Result<(), NoMemory>
+fn write_free<R: Rank>(form: &Form<R>, out: &mut Vec<u8>) -> Result<(), NoMemory>
     ensures ok { OnOk result (out.new.items ≡ out.old.items ++ or_none (free_names (form_table R.R form.now))) }
     ensures longer { IsLonger out.old.items out.new.items }
     ensures capacity { vec_capacity out.old ≤ vec_capacity out.new }
@@ -49,7 +48,8 @@ fn write_free<R: Rank>(alloc: Global, form: &Form<R>, out: &mut Vec<u8>) -> Resu
     }
     for place in 0..form.free_count() {
         append_to(out, gap(place))?;
-        append_to(out, name_of(alloc, form.free_at(place)).as_slice())?;
+        let name = name_bytes(form.free_at(place));
+        append_to(out, &name[..R::R + 1])?;
     }
     Ok(())
 }
@@ -76,7 +76,6 @@ fn write_symbols(
 
 /// Appends the first line of an answer.
 pub fn write_header<R: Rank>(
-    alloc: Global,
     g: &SymbolTree,
     f: &SymbolTree,
     jahn: &Jahn,
@@ -92,7 +91,7 @@ pub fn write_header<R: Rank>(
     append_to(out, b" states ")?;
     write_number(states, out)?;
     append_to(out, b" free ")?;
-    write_free(alloc, form, out)?;
+    write_free(form, out)?;
     append_to(out, b"\n")?;
     Ok(())
 }

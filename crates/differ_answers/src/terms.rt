@@ -7,7 +7,7 @@ ghost use Rattle.smallvec.specs.SmallVec.{HasRoomFor, small_vec_len};
 ghost use Rattle.reduced_form.specs.Forms.{free_at};
 
 use exact_frac::{Frac, append};
-use reduced_form::{Form, name_of};
+use reduced_form::{Form, name_bytes};
 use root3_num::Root3;
 use smallvec::SmallVec;
 use state_marks::RootTerm;
@@ -77,9 +77,7 @@ pub fn term_of<R: Rank>(alloc: Global, form: &Form<R>, term: &RootTerm) -> Small
 {
     let mut text = SmallVec::new(alloc);
     push_factor(&mut text, alloc, &term.factor);
-    append(
-        &mut text,
-        name_of(alloc, form.free_at(term.free as usize)).as_slice(),
-    );
+    let name = name_bytes(form.free_at(term.free as usize));
+    append(&mut text, &name[..R::R + 1]);
     text
 }

@@ -1,17 +1,20 @@
 -- The lines of all components, by their numbers.
 --   lines_add, lines_same, all_lines    lines of components by their numbers
 --   has_found, has_absent    whether a component is among the free ones
---   sum_whole, named_term, text_at, sum_grown, sum_done    sums
+--   IsMarkedUpTo, marks_start, marks_more, marks_done    marks of the free components
+--   sum_whole, named_term, sum_grown, sum_done, unit_text, minus_first    sums
 --   name_grown, name_longer, name_done    names
 --   terms_named, free_line, sum_line    lines
 --   grown_twice, lines_start, lines_grown    lists that have grown
-use Rattle.std.proofs.Common.{◌≡◌, ℕ, zero, suc, ◌+◌, ◌*◌, ◌^◌, ◌<◌, ◌≤◌, true, false, List, [], ◌∷◌, ◌++◌, map, length, get_or, refl, ap, sym, ◌∙◌, arith, subst, length-append}
+use Rattle.std.proofs.Common.{◌≡◌, ℕ, zero, suc, ◌+◌, ◌*◌, ◌^◌, ◌<◌, ◌≤◌, Bool, true, false, List, [], ◌∷◌, ◌++◌, map, length, get_or, inl, inr, refl, ap, sym, ◌∙◌, arith, subst, length-append}
 use Rattle.std.specs.List.{flat_map}
-use Rattle.std.specs.Prelude.{codes, take}
+use Rattle.std.specs.Prelude.{codes, slice_set, take}
 use Rattle.std.proofs.Math.Nat.{pow-suc}
-use Rattle.std.proofs.lemmas.Grind.{flat_map-append}
-use Rattle.std.proofs.lemmas.List.{append_assoc, length-map, append-nil, take_all}
-use Rattle.std.proofs.lemmas.Bool.{false_from_ne_true}
+use Rattle.std.proofs.lemmas.Grind.{flat_map-append, get_or-set_at}
+use Rattle.std.proofs.lemmas.List.{append_assoc, length-map, length-set, append-nil, get_or-set_other, take_all}
+use Rattle.std.proofs.lemmas.Bool.{cases_Bool, cases_eq, cases_lt, false_from_ne_true}
+use Rattle.tensor_defs.specs.declared.Sign.{Sign}
+use Rattle.tensor_defs.specs.declared.Sign.TheVariants.{Plus, Minus}
 use Rattle.list_laws.proofs.Tests.{either_left, either_right, either_none}
 use Rattle.tensor_laws.proofs.Indices.{same_own, same_told}
 use Rattle.tensor_defs.specs.Lists.{Each}
@@ -22,8 +25,8 @@ use Rattle.text_defs.specs.AnswerTexts.{component_line, component_name, digits_t
 use Rattle.text_defs.specs.NumberTexts.{NamedTerm, joined, later_terms, sum_text, term_text}
 use Rattle.text_laws.proofs.Joins.{equation_joined, free_joined}
 use Rattle.reduced_form.specs.declared.forms.Term.{Term}
-use Rattle.reduced_form.specs.Forms.{FormValue, form_table, free_at, row_at, term_of}
-use Rattle.reduced_form.specs.Texts.{IsLonger, lines_upto, named_terms, placed, sum_from}
+use Rattle.reduced_form.specs.Forms.{FormValue, form_table, free_at, row_at, term_of, unit_fraction}
+use Rattle.reduced_form.specs.Texts.{AreFreeMarks, IsLonger, lines_upto, named_terms, placed, sum_from, text_at}
 
 -- ---- lines of components by their numbers
 pub lines_add : (f : ℕ → List ℕ) (m n : ℕ) → lines_upto f (m + n) ≡ lines_upto f m ++ lines_upto (λ c. f (m + c)) n
@@ -91,6 +94,58 @@ has_absent r c (x ∷ free) h below away =
     (sym (number-index_of r x (below 0 (omega arith))) ∙ ap component_number (same_told (index_of r x) (index_of r c) e) ∙ number-index_of r c h)))
     (has_absent r c free h (λ k l. below (suc k) (omega arith)) (λ k l. away (suc k) (omega arith)))
 
+-- the first free components are marked, and nothing else
+pub record IsMarkedUpTo (n : ℕ) (free : List ℕ) (place : ℕ) (marks : List Bool) : Type 0 where
+  pub len : length marks ≡ n
+  pub own : (k : ℕ) → k < place → get_or marks (free_at free k) false ≡ true
+  pub other : (c : ℕ) → ((k : ℕ) → k < place → free_at free k ≡ c → ⊥) → get_or marks c false ≡ false
+
+pub marks_start : (n : ℕ) (free : List ℕ) (marks : List Bool) → length marks ≡ n → ((c : ℕ) → get_or marks c false ≡ false) → IsMarkedUpTo n free 0 marks
+marks_start n free marks len none = record { len = len; own = λ k l. absurd (omega arith); other = λ c away. none c }
+
+pub none_more : (marks : List Bool) → ((c : ℕ) → get_or marks c false ≡ false) → (c : ℕ) → get_or (marks ++ false ∷ []) c false ≡ false
+none_more [] h zero = refl
+none_more [] h (suc c) = refl
+none_more (b ∷ marks) h zero = h 0
+none_more (b ∷ marks) h (suc c) = none_more marks (λ k. h (suc k)) c
+
+pub marks_more : (n : ℕ) (free : List ℕ) (place i : ℕ) (marks : List Bool) → IsMarkedUpTo n free place marks → i ≡ free_at free place → i < n → IsMarkedUpTo n free (place + 1) (slice_set marks i true)
+marks_more n free place i marks m at inside =
+    let within : i < length marks = rw m.len inside in
+    record {
+      len = length-set marks i true ∙ m.len;
+      own = λ k l. elim (cases_eq (free_at free k) i) as (λ _. get_or (slice_set marks i true) (free_at free k) false ≡ true) [
+        | inl e ↦ get_or-set_at marks i (free_at free k) true false e within
+        | inr e ↦
+            let before : k < place = elim (cases_lt k place) as (λ _. k < place) [
+              | inl p ↦ p
+              | inr p ↦ let same : k ≡ place = omega arith in absurd (e (ap (free_at free) same ∙ sym at))
+            ] in
+            get_or-set_other marks i (free_at free k) true false e ∙ m.own k before
+      ];
+      other = λ c away.
+          get_or-set_other marks i c true false (λ e. away place (omega arith) (sym at ∙ sym e)) ∙ m.other c (λ k l. away k (omega arith));
+    }
+
+pub marks_done : (n r : ℕ) (free : List ℕ) (marks : List Bool) → n ≡ 3 ^ r → ((k : ℕ) → k < length free → free_at free k < n) → IsMarkedUpTo n free (length free) marks → AreFreeMarks n r free marks
+marks_done n r free marks power below m = record {
+  len = m.len;
+  is = λ c l. elim (cases_Bool (has_index (map (index_of r) free) (index_of r c))) as (λ _. get_or marks c false ≡ has_index (map (index_of r) free) (index_of r c)) [
+    | inl has ↦ elim (cases_Bool (get_or marks c false)) as (λ _. get_or marks c false ≡ has_index (map (index_of r) free) (index_of r c)) [
+      | inl marked ↦ marked ∙ sym has
+      | inr bare ↦
+          let absent : has_index (map (index_of r) free) (index_of r c) ≡ false =
+          has_absent r c free (subst (λ (x : ℕ). c < x) power l) (λ k h. subst (λ (x : ℕ). free_at free k < x) power (below k h))
+          (λ k h e. true_is_false (sym (m.own k h) ∙ ap (λ d. get_or marks d false) e ∙ bare)) in
+          bare ∙ sym absent
+    ]
+    | inr none ↦ m.other c (λ k h e. true_is_false (sym (has_found r c free k h e) ∙ none)) ∙ sym none
+  ];
+}
+  where
+    true_is_false : true ≡ false → ⊥
+    true_is_false e = cc
+
 -- ---- sums
 later_on : (n : ℕ) (ts : List NamedTerm) → later_terms ts ≡ sum_from (suc n) ts
 later_on n [] = refl
@@ -103,9 +158,6 @@ sum_whole (t ∷ ts) h = ap (λ x. term_text t.factor t.name ++ x) (sym (later_o
 -- the name with its factor
 abbrev pub named_term : ℕ → FormValue → Term → NamedTerm
 named_term r f t = record { factor = rational t.factor; name = component_name (index_of r (free_at f.free t.free)) }
-
-abbrev pub text_at : ℕ → FormValue → Term → List ℕ
-text_at r f t = term_text (rational t.factor) (component_name (index_of r (free_at f.free t.free)))
 
 sum_more : (r : ℕ) (f : FormValue) (n : ℕ) (row : List Term) (p : ℕ) (t : Term) → p < length row → t ≡ get_or row p t →
     sum_from n (named_terms r f (take (suc p) row)) ≡ sum_from n (named_terms r f (take p row)) ++ placed (n + p) (text_at r f t)
@@ -137,6 +189,19 @@ pub sum_done : (r : ℕ) (f : FormValue) (row : List Term) (p : ℕ) → 0 < len
 sum_done r f row p some end =
     ap (λ xs. sum_from 0 (named_terms r f xs)) (take_all p row end)
     ∙ sum_whole (named_terms r f row) (subst (λ n. 0 < n) (sym (length-map row (named_term r f))) some)
+
+abbrev pub signed_name : Sign → List ℕ → List ℕ
+signed_name Plus name = name
+signed_name Minus name = 45 ∷ name
+
+-- a term with the factor 1 or -1
+pub unit_text : (r : ℕ) (f : FormValue) (t : Term) (s : Sign) → t.factor ≡ unit_fraction s → text_at r f t ≡ signed_name s (component_name (index_of r (free_at f.free t.free)))
+unit_text r f t Plus e = ap (λ x. term_text (rational x) (component_name (index_of r (free_at f.free t.free)))) e
+unit_text r f t Minus e = ap (λ x. term_text (rational x) (component_name (index_of r (free_at f.free t.free)))) e
+
+pub minus_first : (n : ℕ) (text : List ℕ) → placed n (45 ∷ text) ≡ 45 ∷ text
+minus_first zero text = refl
+minus_first (suc n) text = refl
 
 -- ---- names
 digits_more : (is : Index) (p : ℕ) → p < length is →

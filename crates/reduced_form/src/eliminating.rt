@@ -62,7 +62,7 @@ fn told_rows<R: Rank>(
     ensures len { IfOk result (λ rows. length rows.items ≡ R.LEN) }
     ensures rows { IfOk result (λ rows. (c : ℕ) → c < R.LEN → row_at (map (λ row. row.items) rows.items) c ≡ class_row told.now.tellers.items told.now.numbers.items told.now.sums.items places.now (class_at classes.now c)) }
 {
-    let mut rows = Vec::new(alloc);
+    let mut rows = Vec::with_capacity(alloc, R::LEN)?;
     for c in 0..R::LEN {
         rows.push(row_of_class(alloc, classes, places, told, c)?)?;
     }

@@ -77,7 +77,7 @@ pub fn places_of<R: Rank>(alloc: Global, free: &[u16]) -> Result<Vec<u16>, NoMem
     requires apart { (i k : ℕ) → i < length free.now → k < length free.now → free_at free.now i ≡ free_at free.now k → i ≡ k }
     ensures { IfOk result (λ places. ArePlaces R.LEN free.now places.items (length free.now)) }
 {
-    let mut places = Vec::new(alloc);
+    let mut places = Vec::with_capacity(alloc, R::LEN)?;
     for _ in 0..R::LEN {
         places.push(0)?;
     }

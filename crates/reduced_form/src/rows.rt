@@ -53,7 +53,7 @@ pub fn rows_of<R: Rank>(
     ensures len { IfOk result (λ rows. length rows.items ≡ R.LEN) }
     ensures rows { IfOk result (λ rows. (c : ℕ) → c < R.LEN → row_at (map (λ row. row.items) rows.items) c ≡ row_of (entry_at classes.now c) places.now) }
 {
-    let mut rows = Vec::new(alloc);
+    let mut rows = Vec::with_capacity(alloc, R::LEN)?;
     for c in 0..R::LEN {
         rows.push(row_of(alloc, classes, places, c))?;
     }

@@ -15,7 +15,7 @@ fn sparse_row<R: Rank>(alloc: Global, row: &Row<R>, places: &[u16]) -> Result<Sp
     requires whole { CanPlace R.LEN places.now row.now }
     ensures { IfOk result (IsSparse R.LEN places.now row.now) }
 {
-    let mut entries = Vec::new(alloc);
+    let mut entries = Vec::with_capacity(alloc, row.parts().len())?;
     for place in 0..row.parts().len() {
         let (component, number) = row.at(place);
         entries.push(WholeEntry {
@@ -37,7 +37,7 @@ pub fn sparse_rows_of<R: Rank>(
     requires whole { Each (CanPlace R.LEN places.now) rows.now }
     ensures { IfOk result (λ v. AreSparse R.LEN places.now rows.now v.items) }
 {
-    let mut sparse = Vec::new(alloc);
+    let mut sparse = Vec::with_capacity(alloc, rows.len())?;
     for row in rows {
         sparse.push(sparse_row(alloc, row, places)?)?;
     }

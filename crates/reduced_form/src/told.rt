@@ -34,7 +34,7 @@ fn no_tellers(alloc: Global, unknowns: usize) -> Result<Vec<Option<usize>>, NoMe
     ensures len { IfOk result (λ v. length v.items ≡ unknowns) }
     ensures none { IfOk result (λ v. (k : ℕ) → teller v.items k ≡ None) }
 {
-    let mut tellers = Vec::new(alloc);
+    let mut tellers = Vec::with_capacity(alloc, unknowns)?;
     for _ in 0..unknowns {
         tellers.push(None)?;
     }
@@ -68,8 +68,8 @@ pub fn free_numbers(
     ensures free { IfOk result (λ v. v.free.items ≡ map (free_at unknowns.now) (free_places tellers.now (length unknowns.now))) }
     ensures numbers { IfOk result (λ v. AreNumbers tellers.now (length unknowns.now) v.numbers.items) }
 {
-    let mut free = Vec::new(alloc);
-    let mut numbers = Vec::new(alloc);
+    let mut free = Vec::with_capacity(alloc, unknowns.len())?;
+    let mut numbers = Vec::with_capacity(alloc, unknowns.len())?;
     for place in 0..unknowns.len() {
         numbers.push(free.len() as u16)?;
         if tellers[place].is_none() {

@@ -1,19 +1,19 @@
 //! The component lines of a table.
-ghost use Rattle.std.specs.Prelude.{◌≡◌, ◌+◌, ◌++◌, ◌<◌, ◌≤◌, ℕ, List, length, map, take, codes, OnOk, OnErr, IsTrue, vec_len, vec_capacity};
+ghost use Rattle.std.specs.Prelude.{◌≡◌, ◌+◌, ◌++◌, ◌<◌, ◌≤◌, ℕ, List, length, map, take, codes, IfOk, IfSome, OnOk, OnErr, IsTrue, vec_len, vec_capacity};
 ghost use Rattle.tensor_defs.specs.Lists.{Each};
 ghost use Rattle.tensor_defs.specs.Tensor.{index_of};
-ghost use Rattle.text_defs.specs.AnswerTexts.{component_line, component_name, has_index, rational, table_text};
+ghost use Rattle.text_defs.specs.AnswerTexts.{component_line, component_name, rational, table_text};
 ghost use Rattle.text_defs.specs.NumberTexts.{factor_text, is_negative, is_one, sum_text, term_text, without_sign};
 ghost use Rattle.smallvec.specs.SmallVec.{HasRoomFor, small_vec_len};
-ghost use Rattle.reduced_form.specs.Forms.{form_table, free_at};
-ghost use Rattle.reduced_form.specs.Texts.{IsLonger, named_terms, placed, takes_plus};
+ghost use Rattle.reduced_form.specs.Forms.{form_table, free_at, unit_fraction};
+ghost use Rattle.reduced_form.specs.Texts.{AreFreeMarks, IsLonger, named_terms, placed, takes_plus, text_at};
 
 use crate::forms::{Form, Term};
 use crate::memory::NoMemory;
 use exact_frac::{Frac, append};
 use smallvec::SmallVec;
 use std::alloc::Global;
-use tensor_rank::{Comp, Rank};
+use tensor_rank::{Comp, Rank, Sign};
 
 /// Appends bytes, or leaves the list as it was.
 pub fn append_to(out: &mut Vec<u8>, bytes: &[u8]) -> Result<(), NoMemory>
@@ -27,17 +27,25 @@ pub fn append_to(out: &mut Vec<u8>, bytes: &[u8]) -> Result<(), NoMemory>
     }
 }
 
-/// The name of a component: T and its index digits.
-pub fn name_of<R: Rank>(alloc: Global, c: Comp<R>) -> SmallVec<u8, 8>
-    ensures name { result.items ≡ component_name (index_of R.R c) }
-    ensures short { length result.items ≤ 7 }
+/// The name of a component, T and its index digits, and behind it what the rank leaves over.
+pub fn name_bytes<R: Rank>(c: Comp<R>) -> [u8; 7]
+    ensures { take (R.R + 1) result ≡ component_name (index_of R.R c) }
 {
-    let mut name = SmallVec::new(alloc);
-    name.push_reserved(b'T');
+    let mut name = [b'T'; 7];
     for place in 0..R::R {
-        name.push_reserved(48 + c.digit(place));
+        name[place + 1] = 48 + c.digit(place);
     }
     name
+}
+
+/// Appends the name of a component.
+fn write_name<R: Rank>(c: Comp<R>, out: &mut Vec<u8>) -> Result<(), NoMemory>
+    ensures ok { OnOk result (out.new.items ≡ out.old.items ++ component_name (index_of R.R c)) }
+    ensures longer { IsLonger out.old.items out.new.items }
+    ensures capacity { vec_capacity out.old ≤ vec_capacity out.new }
+{
+    let name = name_bytes(c);
+    append_to(out, &name[..R::R + 1])
 }
 
 /// Whether a fraction is 1.
@@ -87,10 +95,8 @@ fn term_of<R: Rank>(alloc: Global, form: &Form<R>, term: &Term) -> SmallVec<u8, 
 {
     let mut text = SmallVec::new(alloc);
     push_factor(&mut text, alloc, &term.factor);
-    append(
-        &mut text,
-        name_of(alloc, form.free_at(term.free as usize)).as_slice(),
-    );
+    let name = name_bytes(form.free_at(term.free as usize));
+    append(&mut text, &name[..R::R + 1]);
     text
 }
 
@@ -116,6 +122,50 @@ pub fn write_term(text: &[u8], place: usize, out: &mut Vec<u8>) -> Result<(), No
     append_to(out, text)
 }
 
+/// The sign of a factor that is 1 or -1, and none for others.
+fn unit_sign(factor: &Frac) -> Option<Sign>
+    ensures { IfSome result (λ s. factor.now ≡ unit_fraction s) }
+{
+    if factor.den() != 1 {
+        return None;
+    }
+    if factor.num() == 1 {
+        return Some(Sign::Plus);
+    }
+    if factor.num() == -1 {
+        return Some(Sign::Minus);
+    }
+    None
+}
+
+/// Appends a term of a table at a place of a sum.
+fn write_term_of<R: Rank>(
+    form: &Form<R>,
+    term: &Term,
+    place: usize,
+    out: &mut Vec<u8>,
+) -> Result<(), NoMemory>
+    requires { term.now.free < length form.now.free }
+    ensures ok { OnOk result (out.new.items ≡ out.old.items ++ placed place (text_at R.R form.now term.now)) }
+    ensures longer { IsLonger out.old.items out.new.items }
+    ensures capacity { vec_capacity out.old ≤ vec_capacity out.new }
+{
+    match unit_sign(&term.factor) {
+        Some(Sign::Plus) => {
+            let name = name_bytes(form.free_at(term.free as usize));
+            write_term(&name[..R::R + 1], place, out)
+        }
+        Some(Sign::Minus) => {
+            append_to(out, b"-")?;
+            write_name(form.free_at(term.free as usize), out)
+        }
+        None => {
+            let text = term_of(*form.free.allocator(), form, term);
+            write_term(text.as_slice(), place, out)
+        }
+    }
+}
+
 /// Appends the sum of a row: 0 where it has no term.
 fn write_sum<R: Rank>(form: &Form<R>, row: &[Term], out: &mut Vec<u8>) -> Result<(), NoMemory>
     requires { Each (λ t. t.free < length form.now.free) row.now }
@@ -126,37 +176,44 @@ fn write_sum<R: Rank>(form: &Form<R>, row: &[Term], out: &mut Vec<u8>) -> Result
     if row.is_empty() {
         return append_to(out, b"0");
     }
-    let alloc = *form.free.allocator();
     for place in 0..row.len() {
-        let text = term_of(alloc, form, &row[place]);
-        write_term(text.as_slice(), place, out)?;
+        write_term_of(form, &row[place], place, out)?;
     }
     Ok(())
 }
 
-/// Whether a component is free.
-fn is_free<R: Rank>(form: &Form<R>, c: Comp<R>) -> bool
-    ensures { result ≡ has_index (map (index_of R.R) form.now.free) (index_of R.R c) }
+/// For each component whether it is free.
+fn free_marks<R: Rank>(form: &Form<R>) -> Result<Vec<bool>, NoMemory>
+    ensures { IfOk result (λ marks. AreFreeMarks R.LEN R.R form.now.free marks.items) }
 {
-    let number = c.number();
-    for place in 0..form.free.len() {
-        if form.free[place] == number {
-            return true;
-        }
+    let mut marks = Vec::with_capacity(*form.free.allocator(), R::LEN)?;
+    for _ in 0..R::LEN {
+        marks.push(false)?;
     }
-    false
+    for place in 0..form.free.len() {
+        marks[form.free[place] as usize] = true;
+    }
+    Ok(marks)
 }
 
 /// Appends the line of the component of a number.
-fn write_line<R: Rank>(form: &Form<R>, number: usize, out: &mut Vec<u8>) -> Result<(), NoMemory>
-    requires { number < R.LEN }
+fn write_line<R: Rank>(
+    form: &Form<R>,
+    marks: &[bool],
+    number: usize,
+    out: &mut Vec<u8>,
+) -> Result<(), NoMemory>
+    requires number { number < R.LEN }
+    requires marks { AreFreeMarks R.LEN R.R form.now.free marks.now }
     ensures ok { OnOk result (out.new.items ≡ out.old.items ++ component_line (form_table R.R form.now) (index_of R.R number)) }
     ensures longer { IsLonger out.old.items out.new.items }
     ensures capacity { vec_capacity out.old ≤ vec_capacity out.new }
 {
+    // a field that is read brings the invariant into the proof
+    let _free = &form.free;
     let c = Comp::at(number);
-    append_to(out, name_of(*form.free.allocator(), c).as_slice())?;
-    if is_free(form, c) {
+    write_name(c, out)?;
+    if marks[number] {
         return append_to(out, b" free\n");
     }
     append_to(out, b" = ")?;
@@ -170,8 +227,9 @@ fn write_lines<R: Rank>(form: &Form<R>, out: &mut Vec<u8>) -> Result<(), NoMemor
     ensures longer { IsLonger out.old.items out.new.items }
     ensures capacity { vec_capacity out.old ≤ vec_capacity out.new }
 {
+    let marks = free_marks(form)?;
     for number in 0..R::LEN {
-        write_line(form, number, out)?;
+        write_line(form, &marks, number, out)?;
     }
     Ok(())
 }

@@ -1,4 +1,4 @@
-use Rattle.std.proofs.Common.{◌≡◌, ◌<◌, ◌^◌, ◌++◌, ℕ, List, length, map, ap, sym, ◌∙◌, subst}
+use Rattle.std.proofs.Common.{◌≡◌, ◌<◌, ◌^◌, ◌++◌, ℕ, List, length, map, ap, sym, ◌∙◌, subst, refl}
 use Rattle.std.proofs.lemmas.Result.{on_ok_weaker}
 use Rattle.tensor_defs.specs.Lists.{Each}
 use Rattle.tensor_defs.specs.Tensor.{index_of}
@@ -15,15 +15,14 @@ returns-clause-ok g c =
     let r = g.R.Rank.R in
     let f : FormValue = c.args.form.now in
     let n : ℕ = c.args.number in
-    let below : n < 3 ^ r = subst (λ (x : ℕ). n < x) g.R.Rank.power c.requires in
+    let below : n < 3 ^ r = subst (λ (x : ℕ). n < x) g.R.Rank.power c.requires.number in
     let each : Each (λ t. t.free < length f.free) (row_at f.rows n) =
-    subst (λ (v : FormValue). Each (λ t. t.free < length v.free) (row_at v.rows n)) c.form.view_is (c.form.invariant.named n c.requires) in
-    let name : c.as_slice-2.result.now ≡ component_name (index_of r n) = c.as_slice-2.ensures ∙ c.name_of.ensures.name ∙ ap (λ d. component_name (index_of r d)) c.at-c.ensures in
+    subst (λ (v : FormValue). Each (λ t. t.free < length v.free) (row_at v.rows n)) c.form.view_is (c.form.invariant.named n c.requires.number) in
     let row : c.row.result.now ≡ row_at f.rows n = c.row.ensures ∙ ap (row_at f.rows) c.at-c.ensures in
     let kept : c.write_sum.new.out.items ≡ c.append_to-2.new.out.items ++ sum_text (named_terms r f (row_at f.rows n)) =
     c.in_ok-write_sum.ensures.ok ∙ ap (λ (ts : List Term). c.append_to-2.new.out.items ++ sum_text (named_terms r f ts)) row in
+    let here : c.write_name.new.out.items ≡ c.args.out.now.items ++ component_name (index_of r n) =
+    c.in_ok-write_name.ensures.ok ∙ ap (λ d. c.args.out.now.items ++ component_name (index_of r d)) c.at-c.ensures in
     on_ok_weaker c.append_to-3.result (λ last.
-    sum_line r n f c.args.out.now.items c.append_to.new.out.items c.append_to-2.new.out.items c.write_sum.new.out.items
-    c.append_to-3.new.out.items c.as_slice-2.result.now
-    (sym (c.is_free.ensures ∙ ap (λ d. has_index (map (index_of r) f.free) (index_of r d)) c.at-c.ensures) ∙ c.if-is_free.false)
-    below each name c.in_ok-append_to.ensures.ok c.in_ok-append_to-2.ensures.ok kept last) c.append_to-3.ensures.ok
+    sum_line r n f c.args.out.now.items c.write_name.new.out.items c.append_to-2.new.out.items c.write_sum.new.out.items
+    c.append_to-3.new.out.items (component_name (index_of r n)) (sym (c.requires.marks.is n c.requires.number) ∙ c.if-marks-number.false) below each refl here c.in_ok-append_to.ensures.ok kept last) c.append_to-3.ensures.ok
