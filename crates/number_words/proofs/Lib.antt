@@ -1,0 +1,4 @@
+pub mod Rests
+pub mod Digits
+pub mod Quotients
+pub mod Languages
