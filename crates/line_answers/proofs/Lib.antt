@@ -3,3 +3,4 @@ mod LineAnswers
 mod StopLaws
 mod Grown
 mod ToldRequests
+mod Outcomes

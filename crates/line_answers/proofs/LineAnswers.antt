@@ -59,7 +59,7 @@ module _ (format : Format) (line : List ℕ) (q : Request) (short : length line 
   this : (p : Request) (word : RefusalWord) (c : ℕ) → SpellsRequest format line p → RefusesRequest p word c → RefusesRequest q word c
   this p word c s' r = subst (λ x. RefusesRequest x word c) (one_request_spelled format line p q s' s) r
 
-  not_refused : IsOpen q → (word : RefusalWord) (c : ℕ) → Refuses format line word c → ⊥
+  pub not_refused : IsOpen q → (word : RefusalWord) (c : ℕ) → Refuses format line word c → ⊥
   not_refused o Long c r = omega (arith, short, r.0)
   not_refused o Syntax c r = r.2.none (q, s)
   not_refused o Primes c r = none_applies q o Primes c (this r.1 Primes c r.2 r.3)

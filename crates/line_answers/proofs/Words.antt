@@ -2,6 +2,7 @@
 --   none_first, nth_first    the first word of which a fact holds
 --   each_more, each_nth, joined_more    a fact of words, and the answers for them, with one more word
 --   all_words       the words up to a place, where there are no more
+--   add_more, add_all, none_add_up    sums over words
 use Rattle.std.proofs.Common.{◌≡◌, inl, inr, ℕ, zero, suc, ◌+◌, ◌-◌, ◌≤◌, List, [], ◌∷◌, ◌++◌, length, take, drop, refl, sym, ◌∙◌, ap, subst, arith, append_assoc}
 use Rattle.std.proofs.lemmas.List.{append-nil}
 use Rattle.tensor_defs.specs.Lists.{Each}
@@ -12,7 +13,7 @@ use Rattle.text_defs.specs.Requests.{JahnAt}
 use Rattle.std.specs.Prelude.{None}
 use Rattle.request_lines.specs.Readings.{NthWord, IsNthWord}
 use Rattle.request_lines.specs.declared.Span.{Span}
-use Rattle.line_answers.specs.Kinds.{IsJoinedOnto}
+use Rattle.line_answers.specs.Kinds.{AddUp, IsJoinedOnto, NamesNone}
 
 pub none_first : (Fact : JahnAt → Type 0) (js : List JahnAt) (c : ℕ) → Each (λ j. Fact j → ⊥) js → FirstAt Fact js c → ⊥
 none_first Fact [] c none first = first
@@ -93,3 +94,27 @@ each_all P js k few all = subst (Each P) (all_words js k few) all
 pub joined_all : (Text : JahnSymbol → List ℕ → Type 0) (js : List JahnAt) (k : ℕ) (old new : List ℕ) → length js ≤ k
     → IsJoinedOnto Text old new (take k js) → IsJoinedOnto Text old new js
 joined_all Text js k old new few joined = subst (IsJoinedOnto Text old new) (all_words js k few) joined
+
+-- ---- sums over words
+add_push : (Free : JahnSymbol → ℕ → Type 0) (is : List JahnAt) (j : JahnAt) (n m : ℕ) → AddUp Free is n → Free j.jahn m
+    → AddUp Free (is ++ j ∷ []) (n + m)
+add_push Free [] j n m so_far here = (m, 0, here, refl, omega (arith, so_far))
+add_push Free (i ∷ is) j n m so_far here = (
+  so_far.0,
+  so_far.1 + m,
+  so_far.2,
+  add_push Free is j so_far.1 m so_far.3 here,
+  omega (arith, so_far.4),
+)
+
+pub add_more : (Free : JahnSymbol → ℕ → Type 0) (js : List JahnAt) (k : ℕ) (j : JahnAt) (more : List JahnAt) → drop k js ≡ j ∷ more
+    → (n m : ℕ) → AddUp Free (take k js) n → Free j.jahn m → AddUp Free (take (k + 1) js) (n + m)
+add_more Free js k j more is n m so_far here =
+    subst (λ (l : List JahnAt). AddUp Free l (n + m)) (sym (take_next js k j more is)) (add_push Free (take k js) j n m so_far here)
+
+pub add_all : (Free : JahnSymbol → ℕ → Type 0) (js : List JahnAt) (k n : ℕ) → length js ≤ k → AddUp Free (take k js) n → AddUp Free js n
+add_all Free js k n few so_far = subst (λ (l : List JahnAt). AddUp Free l n) (all_words js k few) so_far
+
+pub none_add_up : (js : List JahnAt) (n : ℕ) → AddUp NamesNone js n → n ≡ 0
+none_add_up [] n t = t
+none_add_up (j ∷ js) n t = omega (arith, t.2, none_add_up js t.1 t.3, t.4)

@@ -12,13 +12,23 @@
 --   IsFirstStop     the refusal stands at the first of some Jahn words of which a fact holds
 --   IsTooLarge      the refusal stands at a Jahn word whose numbers grow too large
 --   IsJoinedOnto    a list grew by the answers for some Jahn words
+--   IsFormFree, IsVoigtFree    how many components are free in the table that fits: what its header names
+--   NamesNone       an answer names no number of free components
+--   AddUp           the sum of such numbers over some Jahn words
+--   IsFreeOf        how many free components the headers of the answer to a request name
 -- Source: this project's own.
-use Rattle.std.specs.Prelude.{◌≡◌, ◌+◌, ◌<◌, ◌≤◌, ℕ, List, ◌++◌, length, map}
-use Rattle.tensor_defs.specs.Group.{IsAccepted}
+use Rattle.std.specs.Prelude.{◌≡◌, ◌+◌, ◌<◌, ◌≤◌, ℕ, List, [], ◌∷◌, ◌++◌, length, map}
+use Rattle.tensor_defs.specs.Group.{InGroup, IsAccepted}
 use Rattle.tensor_defs.specs.Jahn.{JahnSymbol, rank}
+use Rattle.tensor_defs.specs.Orders.{index_before}
+use Rattle.tensor_defs.specs.Symbols.{GroupSymbol}
+use Rattle.tensor_defs.specs.Table.{Table, Fits}
+use Rattle.tensor_defs.specs.Voigt.{HasBlocks, VoigtTable, IsVoigtTable}
+use Rattle.tensor_defs.specs.declared.Weights.{Weights}
 use Rattle.text_defs.specs.Answers.{AnswersRequest, AreJoined}
 use Rattle.text_defs.specs.Refusals.{AreAccepted, FirstAt, HasShape, InRank, IsNotSub, JahnGrows, RefusesRequest, groups_of, jahns_of}
 use Rattle.text_defs.specs.Requests.{GroupAt, JahnAt, Request}
+use Rattle.text_defs.specs.Requests.Request.{Form, Voigt}
 use Rattle.request_lines.specs.Readings.{TellsJahn, TellsList}
 use Rattle.request_lines.specs.declared.Named.{Named}
 use Rattle.request_lines.specs.declared.Span.{Span}
@@ -74,6 +84,26 @@ IsFirstStop word Fact NoMemory js = Unit {0}
 
 abbrev pub IsJoinedOnto : (JahnSymbol → List ℕ → Type 0) → List ℕ → List ℕ → List JahnAt → Type 0
 IsJoinedOnto Text old new js = (bytes : List ℕ) × AreJoined Text js bytes × (new ≡ old ++ bytes)
+
+-- ---- numbers of free components
+abbrev pub IsFormFree : GroupSymbol → JahnSymbol → ℕ → Type 0
+IsFormFree g j n = (a : Table) × Fits j (InGroup g) index_before a × (n ≡ length a.free)
+
+abbrev pub IsVoigtFree : GroupSymbol → JahnSymbol → Weights → ℕ → Type 0
+IsVoigtFree g j w n =
+    (bs : List ℕ) × HasBlocks j.factors bs × (v : VoigtTable) × IsVoigtTable j (InGroup g) bs w v × (n ≡ length v.free)
+
+abbrev pub NamesNone : JahnSymbol → ℕ → Type 0
+NamesNone j n = n ≡ 0
+
+abbrev pub AddUp : (JahnSymbol → ℕ → Type 0) → List JahnAt → ℕ → Type 0
+AddUp Free [] n = n ≡ 0
+AddUp Free (j ∷ js) n = (m others : ℕ) × Free j.jahn m × AddUp Free js others × (n ≡ m + others)
+
+abbrev pub IsFreeOf : Request → ℕ → Type 0
+IsFreeOf (Form g js) n = AddUp (IsFormFree g.symbol) js n
+IsFreeOf (Voigt g j w) n = IsVoigtFree g.symbol j.jahn w n
+IsFreeOf q n = n ≡ 0
 
 abbrev pub IsTooLarge : Type 0 → ℕ → NoAnswer → Type 0
 IsTooLarge Grown column (Refused r) = (r ≡ record { word = TooLarge; column = column }) × Grown

@@ -5,7 +5,7 @@ ghost use Rattle.text_defs.specs.Requests.{SpellsRequest, longest_line};
 ghost use Rattle.text_defs.specs.Refusals.{IsHeading, IsPassed, heading};
 ghost use Rattle.request_lines.specs.Readings.{Tells};
 ghost use Rattle.line_runs.specs.Answering.{Ends, IsQuick};
-ghost use Rattle.line_answers.specs.Kinds.{IsGrownBy, IsStop};
+ghost use Rattle.line_answers.specs.Kinds.{IsFreeOf, IsGrownBy, IsStop};
 
 use crate::kinds::{differ, elements, forms, pairs, same, states, voigt};
 use crate::stops::NoAnswer;
@@ -40,19 +40,20 @@ fn says_nothing(format: Format, number: u64, line: &[u8]) -> bool
     }
 }
 
-/// Appends the answer to a request that was read from the line, or tells why there is none. After an error the list is as
-/// before.
-fn try_answer(
+/// Appends the answer to a request that was read from the line, and tells how many free components its headers name; or tells
+/// why there is none. After an error the list is as before.
+pub fn try_answer(
     alloc: Global,
     format: Format,
     line: &[u8],
     request: &Request,
     out: &mut Vec<u8>,
-) -> Result<(), NoAnswer>
+) -> Result<usize, NoAnswer>
     requires short { length line.now ≤ longest_line format }
     requires read { (q : defs.Request) × SpellsRequest format line.now q × Tells line.now request.now q }
     requires other { request.now ≡ Request.Comment → ⊥ }
     ensures ok { OnOk result ((q : defs.Request) → SpellsRequest format line.now q → IsGrownBy q out.old.items out.new.items) }
+    ensures free { IfOk result (λ n. (q : defs.Request) → SpellsRequest format line.now q → IsFreeOf q n) }
     ensures stop { IfErr result (λ e. (q : defs.Request) → SpellsRequest format line.now q → IsStop q e) }
     ensures err { OnErr result (out.new.items ≡ out.old.items) }
     ensures capacity { vec_capacity out.old ≤ vec_capacity out.new }
@@ -89,7 +90,7 @@ fn answer_request(
     ensures capacity { vec_capacity out.old ≤ vec_capacity out.new }
 {
     match try_answer(alloc, format, line, request, out) {
-        Ok(()) => Ok(LineEnd::Answered),
+        Ok(_) => Ok(LineEnd::Answered),
         Err(NoAnswer::Refused(refusal)) => {
             refuse(number, refusal, out)?;
             Ok(LineEnd::Refused)

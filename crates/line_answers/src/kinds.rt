@@ -1,4 +1,4 @@
-//! The answers to requests of each kind.
+//! The answers to requests of each kind. Each call tells how many free components the headers of its answer name.
 ghost use Rattle.std.specs.Prelude.{◌≡◌, ◌++◌, ◌≤◌, ℕ, List, IfErr, IfOk, OnErr, OnOk, length, vec_capacity};
 ghost use Rattle.tensor_defs.specs.Elimination.{Grows};
 ghost use Rattle.tensor_defs.specs.Frames.{IsFramed};
@@ -13,7 +13,7 @@ ghost use Rattle.text_defs.specs.Requests as defs;
 ghost use Rattle.text_defs.specs.Requests.{JahnAt};
 ghost use Rattle.magnetic_groups.specs.Sets.{In};
 ghost use Rattle.request_lines.specs.Readings.{TellsJahn, TellsList};
-ghost use Rattle.line_answers.specs.Kinds.{IsGrownBy, IsNear, IsShortList, IsStateStop, IsStop, IsTold, group_at};
+ghost use Rattle.line_answers.specs.Kinds.{AddUp, IsFormFree, IsGrownBy, IsNear, IsShortList, IsStateStop, IsStop, IsTold, IsVoigtFree, NamesNone, group_at};
 
 use crate::stops::NoAnswer;
 use crate::symbols::{accepted_group, accepted_groups, tensor_in_rank};
@@ -49,16 +49,17 @@ fn state_stop(fault: StateFault, f: &Named) -> NoAnswer
 }
 
 /// The elements of a group.
-pub fn elements(alloc: Global, g: &Named, out: &mut Vec<u8>) -> Result<(), NoAnswer>
+pub fn elements(alloc: Global, g: &Named, out: &mut Vec<u8>) -> Result<usize, NoAnswer>
     requires near { IsNear g.now }
     ensures ok { OnOk result (IsGrownBy (defs.Request.Group (group_at g.now)) out.old.items out.new.items) }
+    ensures free { IfOk result (λ n. n ≡ 0) }
     ensures stop { IfErr result (IsStop (defs.Request.Group (group_at g.now))) }
     ensures err { OnErr result (out.new.items ≡ out.old.items) }
     ensures capacity { vec_capacity out.old ≤ vec_capacity out.new }
 {
     let group = accepted_group(alloc, g)?;
     match write_elements(&g.tree, &group, out) {
-        Ok(()) => Ok(()),
+        Ok(()) => Ok(0),
         Err(_) => Err(NoAnswer::NoMemory),
     }
 }
@@ -75,11 +76,13 @@ impl AnswersTensor for TablesOf<'_> {
 
     ghost text = { λ f. IsFormText f.g.now };
 
+    ghost free = { λ f. IsFormFree f.g.now };
+
     ghost grows = { λ f j. Grows j (InGroup f.g.now) index_before };
 
-    fn answer(&self, alloc: Global, jahn: &Jahn, out: &mut Vec<u8>) -> Result<(), TensorFault> {
+    fn answer(&self, alloc: Global, jahn: &Jahn, out: &mut Vec<u8>) -> Result<usize, TensorFault> {
         match answer_form(alloc, self.g, self.group, jahn, out) {
-            Ok(()) => Ok(()),
+            Ok(free) => Ok(free),
             Err(SolveFault::TooLarge) => Err(TensorFault::TooLarge),
             Err(SolveFault::NoMemory) => Err(TensorFault::NoMemory),
         }
@@ -93,11 +96,12 @@ pub fn forms(
     g: &Named,
     j: Span,
     out: &mut Vec<u8>,
-) -> Result<(), NoAnswer>
+) -> Result<usize, NoAnswer>
     requires near { IsNear g.now }
     requires short { length line.now ≤ 4000 }
     requires list { IsShortList line.now j }
     ensures ok { OnOk result (IsTold line.now j (λ js. IsGrownBy (defs.Request.Form (group_at g.now) js) out.old.items out.new.items)) }
+    ensures free { IfOk result (λ n. IsTold line.now j (λ js. AddUp (IsFormFree g.now.tree) js n)) }
     ensures stop { IfErr result (λ e. IsTold line.now j (λ js. IsStop (defs.Request.Form (group_at g.now) js) e)) }
     ensures err { OnErr result (out.new.items ≡ out.old.items) }
     ensures capacity { vec_capacity out.old ≤ vec_capacity out.new }
@@ -119,11 +123,12 @@ pub fn voigt(
     j: Span,
     weights: Weights,
     out: &mut Vec<u8>,
-) -> Result<(), NoAnswer>
+) -> Result<usize, NoAnswer>
     requires near { IsNear g.now }
     requires short { length line.now ≤ 4000 }
     requires told { (b : JahnAt) × TellsJahn line.now j b }
     ensures ok { OnOk result ((b : JahnAt) → TellsJahn line.now j b → IsGrownBy (defs.Request.Voigt (group_at g.now) b weights) out.old.items out.new.items) }
+    ensures free { IfOk result (λ n. (b : JahnAt) → TellsJahn line.now j b → IsVoigtFree g.now.tree b.jahn weights n) }
     ensures stop { IfErr result (λ e. (b : JahnAt) → TellsJahn line.now j b → IsStop (defs.Request.Voigt (group_at g.now) b weights) e) }
     ensures err { OnErr result (out.new.items ≡ out.old.items) }
     ensures capacity { vec_capacity out.old ≤ vec_capacity out.new }
@@ -131,7 +136,7 @@ pub fn voigt(
     let group = accepted_group(alloc, g)?;
     let jahn = tensor_in_rank(alloc, line, j)?;
     match answer_voigt(alloc, &g.tree, &group, &jahn, weights, out) {
-        Ok(()) => Ok(()),
+        Ok(free) => Ok(free),
         Err(VoigtFault::Shape) => Err(NoAnswer::Refused(Refusal::at(Word::Shape, j.start))),
         Err(VoigtFault::TooLarge) => Err(NoAnswer::Refused(Refusal::at(Word::TooLarge, j.start))),
         Err(VoigtFault::NoMemory) => Err(NoAnswer::NoMemory),
@@ -139,31 +144,33 @@ pub fn voigt(
 }
 
 /// The domain states of the transition from a group to its subgroup.
-pub fn states(alloc: Global, g: &Named, f: &Named, out: &mut Vec<u8>) -> Result<(), NoAnswer>
+pub fn states(alloc: Global, g: &Named, f: &Named, out: &mut Vec<u8>) -> Result<usize, NoAnswer>
     requires near { IsNear g.now × IsNear f.now }
     ensures ok { OnOk result (IsGrownBy (defs.Request.States (group_at g.now) (group_at f.now)) out.old.items out.new.items) }
+    ensures free { IfOk result (λ n. n ≡ 0) }
     ensures stop { IfErr result (IsStop (defs.Request.States (group_at g.now) (group_at f.now))) }
     ensures err { OnErr result (out.new.items ≡ out.old.items) }
     ensures capacity { vec_capacity out.old ≤ vec_capacity out.new }
 {
     let (whole, sub) = accepted_groups(alloc, g, f)?;
     match answer_states(alloc, &g.tree, &f.tree, whole, sub, out) {
-        Ok(()) => Ok(()),
+        Ok(()) => Ok(0),
         Err(fault) => Err(state_stop(fault, f)),
     }
 }
 
 /// The classes of pairs of these states.
-pub fn pairs(alloc: Global, g: &Named, f: &Named, out: &mut Vec<u8>) -> Result<(), NoAnswer>
+pub fn pairs(alloc: Global, g: &Named, f: &Named, out: &mut Vec<u8>) -> Result<usize, NoAnswer>
     requires near { IsNear g.now × IsNear f.now }
     ensures ok { OnOk result (IsGrownBy (defs.Request.Pairs (group_at g.now) (group_at f.now)) out.old.items out.new.items) }
+    ensures free { IfOk result (λ n. n ≡ 0) }
     ensures stop { IfErr result (IsStop (defs.Request.Pairs (group_at g.now) (group_at f.now))) }
     ensures err { OnErr result (out.new.items ≡ out.old.items) }
     ensures capacity { vec_capacity out.old ≤ vec_capacity out.new }
 {
     let (whole, sub) = accepted_groups(alloc, g, f)?;
     match answer_pairs(alloc, &g.tree, &f.tree, whole, sub, out) {
-        Ok(()) => Ok(()),
+        Ok(()) => Ok(0),
         Err(fault) => Err(state_stop(fault, f)),
     }
 }
@@ -182,11 +189,13 @@ impl AnswersTensor for MarksOf<'_> {
 
     ghost text = { λ m. IsDifferText m.g.now m.f.now };
 
+    ghost free = { λ _. NamesNone };
+
     ghost grows = { λ m j. MarksGrow j (InGroup m.g.now) (InGroup m.f.now) };
 
-    fn answer(&self, alloc: Global, jahn: &Jahn, out: &mut Vec<u8>) -> Result<(), TensorFault> {
+    fn answer(&self, alloc: Global, jahn: &Jahn, out: &mut Vec<u8>) -> Result<usize, TensorFault> {
         match answer_in_states(alloc, self.g, self.f, self.states, jahn, out) {
-            Ok(()) => Ok(()),
+            Ok(()) => Ok(0),
             Err(DifferFault::TooLarge) => Err(TensorFault::TooLarge),
             Err(DifferFault::NoMemory) => Err(TensorFault::NoMemory),
         }
@@ -221,11 +230,12 @@ pub fn differ(
     f: &Named,
     j: Span,
     out: &mut Vec<u8>,
-) -> Result<(), NoAnswer>
+) -> Result<usize, NoAnswer>
     requires near { IsNear g.now × IsNear f.now }
     requires short { length line.now ≤ 4000 }
     requires list { IsShortList line.now j }
     ensures ok { OnOk result (IsTold line.now j (λ js. IsGrownBy (defs.Request.Differ (group_at g.now) (group_at f.now) js) out.old.items out.new.items)) }
+    ensures free { IfOk result (λ n. IsTold line.now j (λ js. AddUp NamesNone js n)) }
     ensures stop { IfErr result (λ e. IsTold line.now j (λ js. IsStop (defs.Request.Differ (group_at g.now) (group_at f.now) js) e)) }
     ensures err { OnErr result (out.new.items ≡ out.old.items) }
     ensures capacity { vec_capacity out.old ≤ vec_capacity out.new }
@@ -253,11 +263,12 @@ pub fn same(
     h: &Named,
     j: Span,
     out: &mut Vec<u8>,
-) -> Result<(), NoAnswer>
+) -> Result<usize, NoAnswer>
     requires near { IsNear g.now × IsNear h.now }
     requires short { length line.now ≤ 4000 }
     requires told { (b : JahnAt) × TellsJahn line.now j b }
     ensures ok { OnOk result ((b : JahnAt) → TellsJahn line.now j b → IsGrownBy (defs.Request.Same (group_at g.now) (group_at h.now) b) out.old.items out.new.items) }
+    ensures free { IfOk result (λ n. n ≡ 0) }
     ensures stop { IfErr result (λ e. (b : JahnAt) → TellsJahn line.now j b → IsStop (defs.Request.Same (group_at g.now) (group_at h.now) b) e) }
     ensures err { OnErr result (out.new.items ≡ out.old.items) }
     ensures capacity { vec_capacity out.old ≤ vec_capacity out.new }
@@ -265,7 +276,7 @@ pub fn same(
     let (one, other) = accepted_groups(alloc, g, h)?;
     let jahn = tensor_in_rank(alloc, line, j)?;
     match answer_same(alloc, &g.tree, &h.tree, &one, &other, &jahn, out) {
-        Ok(()) => Ok(()),
+        Ok(()) => Ok(0),
         Err(SolveFault::TooLarge) => Err(NoAnswer::Refused(Refusal::at(Word::TooLarge, j.start))),
         Err(SolveFault::NoMemory) => Err(NoAnswer::NoMemory),
     }

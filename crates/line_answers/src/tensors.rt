@@ -1,11 +1,11 @@
 //! The Jahn words of a request, each answered by itself.
-ghost use Rattle.std.specs.Prelude.{◌≡◌, ◌++◌, ◌<◌, ◌≤◌, List, ℕ, IfErr, OnErr, OnOk, length, vec_capacity};
+ghost use Rattle.std.specs.Prelude.{◌≡◌, ◌++◌, ◌<◌, ◌≤◌, List, ℕ, IfErr, IfOk, OnErr, OnOk, length, vec_capacity};
 ghost use Rattle.tensor_defs.specs.Jahn.{JahnSymbol, rank};
 ghost use Rattle.tensor_defs.specs.Lists.{Each};
 ghost use Rattle.jahn_grammar.specs.Symbols.{symbol_of};
 ghost use Rattle.request_lines.specs.Readings.{IsList, TellsJahn, TellsList};
 ghost use Rattle.text_defs.specs.Requests.{JahnAt};
-ghost use Rattle.line_answers.specs.Kinds.{IsFirstStop, IsJoinedOnto, IsShortList, IsTold, IsTooLarge};
+ghost use Rattle.line_answers.specs.Kinds.{AddUp, IsFirstStop, IsJoinedOnto, IsShortList, IsTold, IsTooLarge};
 ghost use Rattle.line_runs.specs.declared.refusals.Word.TheVariants as Word;
 
 use crate::stops::NoAnswer;
@@ -33,14 +33,19 @@ pub trait AnswersTensor {
     /// The bytes answer for a symbol.
     ghost text: { Self → JahnSymbol → List ℕ → Type 0 };
 
+    /// How many free components the answer for a symbol names.
+    ghost free: { Self → JahnSymbol → ℕ → Type 0 };
+
     /// A number that the answer needs is too large.
     ghost grows: { Self → JahnSymbol → Type 0 };
 
-    /// Appends the answer for a tensor. After an error the list is as before.
-    fn answer(&self, alloc: Global, jahn: &Jahn, out: &mut Vec<u8>) -> Result<(), TensorFault>
+    /// Appends the answer for a tensor, and tells how many free components it names. After an error the list is as before.
+    fn answer(&self, alloc: Global, jahn: &Jahn, out: &mut Vec<u8>) -> Result<usize, TensorFault>
         requires ready { ready self.now }
         requires rank { rank (symbol_of jahn.now) ≤ 6 }
         ensures ok { OnOk result ((bytes : List ℕ) × text self.now (symbol_of jahn.now) bytes × (out.new.items ≡ out.old.items ++ bytes)) }
+        ensures free { IfOk result (λ n. free self.now (symbol_of jahn.now) n) }
+        ensures few { IfOk result (λ n. n ≤ 729) }
         ensures calm { OnOk result (grows self.now (symbol_of jahn.now) → ⊥) }
         ensures large { IfErr result (λ e. e ≡ TensorFault.TooLarge → grows self.now (symbol_of jahn.now)) }
         ensures err { OnErr result (out.new.items ≡ out.old.items) }
@@ -65,26 +70,28 @@ pub fn list_in_rank(line: &[u8], list: Span) -> Result<(), NoAnswer>
     Ok(())
 }
 
-/// Appends the answer for a word of a list. After an error the list is as before.
+/// Appends the answer for a word of a list, and tells how many free components it names. After an error the list is as before.
 fn answer_word<T: AnswersTensor>(
     alloc: Global,
     line: &[u8],
     word: Span,
     tensors: &T,
     out: &mut Vec<u8>,
-) -> Result<(), NoAnswer>
+) -> Result<usize, NoAnswer>
     requires ready { T.ready tensors.now }
     requires short { length line.now ≤ 4000 }
     requires told { (b : JahnAt) × TellsJahn line.now word b × (rank b.jahn ≤ 6) }
     ensures ok { OnOk result ((b : JahnAt) → TellsJahn line.now word b →
         (bytes : List ℕ) × T.text tensors.now b.jahn bytes × (out.new.items ≡ out.old.items ++ bytes) × (T.grows tensors.now b.jahn → ⊥)) }
+    ensures free { IfOk result (λ n. (b : JahnAt) → TellsJahn line.now word b → T.free tensors.now b.jahn n) }
+    ensures few { IfOk result (λ n. n ≤ 729) }
     ensures stop { IfErr result (λ e. (b : JahnAt) → TellsJahn line.now word b → IsTooLarge (T.grows tensors.now b.jahn) b.column e) }
     ensures err { OnErr result (out.new.items ≡ out.old.items) }
     ensures capacity { vec_capacity out.old ≤ vec_capacity out.new }
 {
     let jahn = tensor_in_rank(alloc, line, word)?;
     match tensors.answer(alloc, &jahn, out) {
-        Ok(()) => Ok(()),
+        Ok(free) => Ok(free),
         Err(TensorFault::TooLarge) => Err(NoAnswer::Refused(Refusal::at(
             Word::TooLarge,
             word.start,
@@ -93,54 +100,59 @@ fn answer_word<T: AnswersTensor>(
     }
 }
 
-/// Appends the answers for the words of a list that are within rank. After an error the list begins as before.
+/// Appends the answers for the words of a list that are within rank, and tells how many free components they name. After an
+/// error the list begins as before.
 fn answer_words<T: AnswersTensor>(
     alloc: Global,
     line: &[u8],
     list: Span,
     tensors: &T,
     out: &mut Vec<u8>,
-) -> Result<(), NoAnswer>
+) -> Result<usize, NoAnswer>
     requires ready { T.ready tensors.now }
     requires short { length line.now ≤ 4000 }
     requires list { IsShortList line.now list }
     requires in_rank { IsTold line.now list (λ js. Each (λ j. rank j.jahn ≤ 6) js) }
     ensures ok { OnOk result (IsTold line.now list (λ js. IsJoinedOnto (T.text tensors.now) out.old.items out.new.items js
         × Each (λ j. T.grows tensors.now j.jahn → ⊥) js)) }
+    ensures free { IfOk result (λ n. IsTold line.now list (λ js. AddUp (T.free tensors.now) js n)) }
     ensures stop { IfErr result (λ e. IsTold line.now list (IsFirstStop Word.TooLarge (λ j. T.grows tensors.now j.jahn) e)) }
     ensures begins { (more : List ℕ) × (out.new.items ≡ out.old.items ++ more) }
     ensures capacity { vec_capacity out.old ≤ vec_capacity out.new }
 {
+    let mut free = 0;
     for place in 0..MOST {
         let Some(word) = list_word(line, list, place + 1) else {
-            return Ok(());
+            return Ok(free);
         };
-        answer_word(alloc, line, word, tensors, out)?;
+        free += answer_word(alloc, line, word, tensors, out)?;
     }
-    Ok(())
+    Ok(free)
 }
 
-/// Appends the answers for the words of a list that are within rank, joined. After an error the list is as before.
+/// Appends the answers for the words of a list that are within rank, joined, and tells how many free components they name.
+/// After an error the list is as before.
 pub fn answer_list<T: AnswersTensor>(
     alloc: Global,
     line: &[u8],
     list: Span,
     tensors: &T,
     out: &mut Vec<u8>,
-) -> Result<(), NoAnswer>
+) -> Result<usize, NoAnswer>
     requires ready { T.ready tensors.now }
     requires short { length line.now ≤ 4000 }
     requires list { IsShortList line.now list }
     requires in_rank { IsTold line.now list (λ js. Each (λ j. rank j.jahn ≤ 6) js) }
     ensures ok { OnOk result (IsTold line.now list (λ js. IsJoinedOnto (T.text tensors.now) out.old.items out.new.items js
         × Each (λ j. T.grows tensors.now j.jahn → ⊥) js)) }
+    ensures free { IfOk result (λ n. IsTold line.now list (λ js. AddUp (T.free tensors.now) js n)) }
     ensures stop { IfErr result (λ e. IsTold line.now list (IsFirstStop Word.TooLarge (λ j. T.grows tensors.now j.jahn) e)) }
     ensures err { OnErr result (out.new.items ≡ out.old.items) }
     ensures capacity { vec_capacity out.old ≤ vec_capacity out.new }
 {
     let start = out.len();
     match answer_words(alloc, line, list, tensors, out) {
-        Ok(()) => Ok(()),
+        Ok(free) => Ok(free),
         Err(stop) => {
             out.truncate(start);
             Err(stop)

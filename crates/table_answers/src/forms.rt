@@ -1,5 +1,5 @@
 //! The answer to a request for a component table.
-ghost use Rattle.std.specs.Prelude.{◌≡◌, ◌≤◌, ◌++◌, ◌∷◌, [], codes, IfErr, OnErr, OnOk, vec_capacity};
+ghost use Rattle.std.specs.Prelude.{◌≡◌, ◌≤◌, ◌++◌, ◌∷◌, [], codes, length, IfErr, IfOk, OnErr, OnOk, vec_capacity};
 ghost use Rattle.std.specs.Fmt.{decimal};
 ghost use Rattle.tensor_defs.specs.Elimination.{Grows};
 ghost use Rattle.tensor_defs.specs.Frames.{IsFramed};
@@ -84,23 +84,25 @@ fn write_lines<R: Rank>(
     Ok(())
 }
 
-/// Appends the text of a table. After `NoMemory` the list is as before.
+/// Appends the text of a table, and tells how many of its components are free. After `NoMemory` the list is as before.
 fn write_form<R: Rank>(
     alloc: Global,
     tree: &SymbolTree,
     jahn: &Jahn,
     form: &Form<R>,
     out: &mut Vec<u8>,
-) -> Result<(), SolveFault>
+) -> Result<usize, SolveFault>
     requires { rank (symbol_of jahn.now) ≡ R.R }
     ensures ok { OnOk result (out.new.items ≡ out.old.items ++ form_text tree.now (symbol_of jahn.now) (form_table R.R form.now)) }
+    ensures free { IfOk result (λ n. n ≡ length form.now.free) }
+    ensures few { IfOk result (λ n. n ≤ R.LEN) }
     ensures memory { IfErr result (λ e. e ≡ SolveFault.NoMemory) }
     ensures err { OnErr result (out.new.items ≡ out.old.items) }
     ensures capacity { vec_capacity out.old ≤ vec_capacity out.new }
 {
     let before = out.len();
     match write_lines(alloc, tree, jahn, form, out) {
-        Ok(()) => Ok(()),
+        Ok(()) => Ok(form.free_count()),
         Err(_) => {
             out.truncate(before);
             Err(SolveFault::NoMemory)
@@ -108,7 +110,8 @@ fn write_form<R: Rank>(
     }
 }
 
-/// Appends the answer for a symbol whose shape is known. After an error the list is as before.
+/// Appends the answer for a symbol whose shape is known, and tells how many components are free. After an error the list is
+/// as before.
 fn form_at<R: Rank>(
     alloc: Global,
     g: &SymbolTree,
@@ -116,11 +119,13 @@ fn form_at<R: Rank>(
     jahn: &Jahn,
     shape: &Shape<R>,
     out: &mut Vec<u8>,
-) -> Result<(), SolveFault>
+) -> Result<usize, SolveFault>
     requires group { IsListing comes_before (InGroup g.now) group.now }
     requires framed { IsFramed (In group.now) }
     requires shape { IsShapeOf (symbol_of jahn.now) R.R shape.now }
     ensures ok { OnOk result ((a : Table) × Fits (symbol_of jahn.now) (InGroup g.now) index_before a × (out.new.items ≡ out.old.items ++ form_text g.now (symbol_of jahn.now) a)) }
+    ensures free { IfOk result (λ n. (a : Table) × Fits (symbol_of jahn.now) (InGroup g.now) index_before a × (n ≡ length a.free)) }
+    ensures few { IfOk result (λ n. n ≤ 729) }
     ensures calm { OnOk result (Grows (symbol_of jahn.now) (InGroup g.now) index_before → ⊥) }
     ensures grows { IfErr result (λ e. e ≡ SolveFault.TooLarge → Grows (symbol_of jahn.now) (InGroup g.now) index_before) }
     ensures err { OnErr result (out.new.items ≡ out.old.items) }
@@ -133,19 +138,21 @@ fn form_at<R: Rank>(
 }
 
 /// Appends the answer to a request for the component table of a symbol's tensors under a group: a header, and a line for
-/// each component in index order. `TooLarge` where a number of the elimination grows past its bound. After an error the
-/// list is as before.
+/// each component in index order. Tells how many components are free, as the header does. `TooLarge` where a number of the
+/// elimination grows past its bound. After an error the list is as before.
 pub fn answer_form(
     alloc: Global,
     g: &SymbolTree,
     group: &Group,
     jahn: &Jahn,
     out: &mut Vec<u8>,
-) -> Result<(), SolveFault>
+) -> Result<usize, SolveFault>
     requires group { IsListing comes_before (InGroup g.now) group.now }
     requires framed { IsFramed (In group.now) }
     requires rank { rank (symbol_of jahn.now) ≤ 6 }
     ensures ok { OnOk result ((a : Table) × Fits (symbol_of jahn.now) (InGroup g.now) index_before a × (out.new.items ≡ out.old.items ++ form_text g.now (symbol_of jahn.now) a)) }
+    ensures free { IfOk result (λ n. (a : Table) × Fits (symbol_of jahn.now) (InGroup g.now) index_before a × (n ≡ length a.free)) }
+    ensures few { IfOk result (λ n. n ≤ 729) }
     ensures calm { OnOk result (Grows (symbol_of jahn.now) (InGroup g.now) index_before → ⊥) }
     ensures grows { IfErr result (λ e. e ≡ SolveFault.TooLarge → Grows (symbol_of jahn.now) (InGroup g.now) index_before) }
     ensures err { OnErr result (out.new.items ≡ out.old.items) }

@@ -1,13 +1,18 @@
 //! The top call.
-ghost use Rattle.std.specs.Prelude.{◌≡◌, ◌≤◌, []};
+ghost use Rattle.std.specs.Prelude.{◌≡◌, ◌≤◌, [], map, string_bytes};
 ghost use Rattle.std.specs.Option.{IfSome};
 ghost use Rattle.tensor_ports.specs.Causes.{Rose};
 ghost use Rattle.line_runs.specs.Runs.{Leaves, IsComplete};
+ghost use Rattle.run_words.specs.declared.Generate as words_of;
+ghost use Rattle.run_words.specs.Words.{IsAccepted};
+ghost use Rattle.worded_runs.specs.Asked.{AreRefused};
+ghost use Rattle.tensor_cli.specs.Worded.{IsUnstarted, IsWhole, LeavesWorded, outcome_at};
 
-use line_answers::Answers;
+use line_answers::{Answers, Teller};
 use line_runs::Outcome;
 use std::alloc::Global;
 use tensor_ports::{Sink, Source};
+use worded_runs::{Ended, run_asked};
 
 /// The most bytes of an input: 2^32.
 const LIMIT: u64 = 4294967296;
@@ -39,15 +44,40 @@ pub fn run_within<I: Source, O: Sink>(
     line_runs::run_within::<Answers, I, O>(alloc, limit, source, sink)
 }
 
-/// Answers the lines of the source. No words are accepted.
+/// The outcome of a run that words ask for.
+fn outcome_of(ended: Ended) -> Outcome
+    ensures { result ≡ outcome_at ended }
+{
+    match ended {
+        Ended::Answered => Outcome::Answered,
+        Ended::SomeRefused => Outcome::SomeRefused,
+        Ended::Usage => Outcome::Usage,
+        Ended::WriteFault => Outcome::WriteFault,
+        Ended::NoMemory => Outcome::NoMemory,
+    }
+}
+
+/// Makes the generated run that the words ask for.
+fn run_worded<O: Sink>(alloc: Global, words: &[String], sink: &mut O) -> Outcome
+    ensures leaves { LeavesWorded (map string_bytes words.now) result (O.written sink.old) (O.written sink.new) }
+    ensures refused { AreRefused (map string_bytes words.now) → IsUnstarted result × (sink.new ≡ sink.old) }
+    ensures memory { result ≡ Outcome.NoMemory → sink.new ≡ sink.old }
+    ensures unread { result ≡ Outcome.ReadFault → ⊥ }
+    ensures write_cause { result ≡ Outcome.WriteFault → Rose (O.faults sink.old) (O.faults sink.new) }
+    ensures steady { (result ≡ Outcome.WriteFault → ⊥) → O.faults sink.new ≡ O.faults sink.old }
+    ensures complete { (Rose (O.faults sink.old) (O.faults sink.new) → ⊥) → (run : words_of.Generate)
+        → IsAccepted (map string_bytes words.now) run → IsWhole result }
+{
+    outcome_of(run_asked(alloc, words, &mut Teller::new(alloc), sink))
+}
+
+/// Answers the lines of the source; with words, makes the generated run that they ask for, and reads nothing.
 pub fn run<I: Source, O: Sink>(
     alloc: Global,
     words: &[String],
     source: &mut I,
     sink: &mut O,
 ) -> Outcome
-    ensures usage { (words.now ≡ [] → ⊥) → (result ≡ Outcome.Usage) × (source.new ≡ source.old) × (sink.new ≡ sink.old) }
-
     // Without words: what is left and what was written, by the outcome.
     ensures leaves { words.now ≡ [] → IfSome (I.left source.old) (λ input.
         Leaves 4294967296 result input (I.left source.new) (O.written sink.old) (O.written sink.new)) }
@@ -62,9 +92,22 @@ pub fn run<I: Source, O: Sink>(
     // Where nothing failed, it is one of the answers, or the limit, or want of memory.
     ensures complete { words.now ≡ [] → (Rose (I.faults source.old) (I.faults source.new) → ⊥) → (Rose (O.faults sink.old) (O.faults sink.new) → ⊥)
         → IfSome (I.left source.old) (λ input. IsComplete result 4294967296 input) }
+
+    // With words: nothing is read, and the summary of the run that they ask for is written, or a front of it, or nothing.
+    ensures unread { (words.now ≡ [] → ⊥) → source.new ≡ source.old }
+    ensures worded { (words.now ≡ [] → ⊥) → LeavesWorded (map string_bytes words.now) result (O.written sink.old) (O.written sink.new) }
+
+    // Words that aren't accepted start nothing, and are told apart from those that are, unless memory is wanting.
+    ensures usage { (words.now ≡ [] → ⊥) → AreRefused (map string_bytes words.now) → IsUnstarted result × (sink.new ≡ sink.old) }
+    ensures memory { (words.now ≡ [] → ⊥) → result ≡ Outcome.NoMemory → sink.new ≡ sink.old }
+
+    // A write fault is the only end of such a run by which faults of the sink rise.
+    ensures steady { (words.now ≡ [] → ⊥) → (result ≡ Outcome.WriteFault → ⊥) → O.faults sink.new ≡ O.faults sink.old }
+    ensures whole { (words.now ≡ [] → ⊥) → (Rose (O.faults sink.old) (O.faults sink.new) → ⊥) → (run : words_of.Generate)
+        → IsAccepted (map string_bytes words.now) run → IsWhole result }
 {
     if !words.is_empty() {
-        return Outcome::Usage;
+        return run_worded(alloc, words, sink);
     }
     run_within(alloc, LIMIT, source, sink)
 }

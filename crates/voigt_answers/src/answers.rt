@@ -1,5 +1,5 @@
 //! The answer to a request for a Voigt table.
-ghost use Rattle.std.specs.Prelude.{◌≡◌, ◌≤◌, ◌↔◌, ◌++◌, ◌∷◌, [], List, ℕ, codes, IfErr, OnErr, OnOk, vec_capacity};
+ghost use Rattle.std.specs.Prelude.{◌≡◌, ◌≤◌, ◌↔◌, ◌++◌, ◌∷◌, [], List, ℕ, codes, length, IfErr, IfOk, OnErr, OnOk, vec_capacity};
 ghost use Rattle.std.specs.Fmt.{decimal};
 ghost use Rattle.tensor_defs.specs.Frames.{AllOf, IsFramed, IsPlain};
 ghost use Rattle.tensor_defs.specs.Group.{InGroup};
@@ -90,7 +90,7 @@ fn write_lines(
     Ok(())
 }
 
-/// Appends the text of a table. After `NoMemory` the list is as before.
+/// Appends the text of a table, and tells how many of its entries are free. After `NoMemory` the list is as before.
 fn write_voigt(
     alloc: Global,
     tree: &SymbolTree,
@@ -98,16 +98,17 @@ fn write_voigt(
     weights: Weights,
     table: &VoigtTable,
     out: &mut Vec<u8>,
-) -> Result<(), VoigtFault>
+) -> Result<usize, VoigtFault>
     requires { table.now.weights ≡ weights }
     ensures ok { OnOk result (out.new.items ≡ out.old.items ++ voigt_text tree.now (symbol_of jahn.now) weights table.now.sizes (voigt_of table.now)) }
+    ensures free { IfOk result (λ n. n ≡ length table.now.free) }
     ensures memory { IfErr result (λ e. e ≡ VoigtFault.NoMemory) }
     ensures err { OnErr result (out.new.items ≡ out.old.items) }
     ensures capacity { vec_capacity out.old ≤ vec_capacity out.new }
 {
     let before = out.len();
     match write_lines(alloc, tree, jahn, weights, table, out) {
-        Ok(()) => Ok(()),
+        Ok(()) => Ok(table.free_count()),
         Err(_) => {
             out.truncate(before);
             Err(VoigtFault::NoMemory)
@@ -116,9 +117,9 @@ fn write_voigt(
 }
 
 /// Appends the answer to a request for the Voigt table of a symbol's tensors under a group: a header, and a line for each
-/// entry in order. `Shape` exactly where the symbol without marks has no Voigt table; `TooLarge` where a number of the
-/// elimination or a weighted factor grows past its bound, and never for a group that is all plain. After an error the list
-/// is as before.
+/// entry in order. Tells how many entries are free, as the header does. `Shape` exactly where the symbol without marks has no
+/// Voigt table; `TooLarge` where a number of the elimination or a weighted factor grows past its bound, and never for a group
+/// that is all plain. After an error the list is as before.
 pub fn answer_voigt(
     alloc: Global,
     g: &SymbolTree,
@@ -126,13 +127,15 @@ pub fn answer_voigt(
     jahn: &Jahn,
     weights: Weights,
     out: &mut Vec<u8>,
-) -> Result<(), VoigtFault>
+) -> Result<usize, VoigtFault>
     requires group { IsListing comes_before (InGroup g.now) group.now }
     requires framed { IsFramed (In group.now) }
     requires rank { rank (symbol_of jahn.now) ≤ 6 }
     ensures ok { OnOk result ((bs : List ℕ) × HasBlocks (symbol_of jahn.now).factors bs
         × (v : defs.VoigtTable) × IsVoigtTable (symbol_of jahn.now) (InGroup g.now) bs weights v
         × (out.new.items ≡ out.old.items ++ voigt_text g.now (symbol_of jahn.now) weights bs v)) }
+    ensures free { IfOk result (λ n. (bs : List ℕ) × HasBlocks (symbol_of jahn.now).factors bs
+        × (v : defs.VoigtTable) × IsVoigtTable (symbol_of jahn.now) (InGroup g.now) bs weights v × (n ≡ length v.free)) }
     ensures calm { OnOk result ((bs : List ℕ) → HasBlocks (symbol_of jahn.now).factors bs → VoigtGrows (symbol_of jahn.now) (InGroup g.now) bs weights → ⊥) }
     ensures grows { IfErr result (λ e. e ≡ VoigtFault.TooLarge → (bs : List ℕ) × HasBlocks (symbol_of jahn.now).factors bs × VoigtGrows (symbol_of jahn.now) (InGroup g.now) bs weights) }
     ensures plain { IfErr result (λ e. e ≡ VoigtFault.TooLarge → ¬ AllOf (In group.now) IsPlain) }

@@ -40,7 +40,7 @@ fn answer(
     let mut out = Vec::new(alloc);
     out.push(b'x').ok()?;
     match answer_voigt(alloc, &tree, &elements, &jahn, weights, &mut out) {
-        Ok(()) => Some(Ok(out)),
+        Ok(_) => Some(Ok(out)),
         Err(fault) if out.as_slice() == b"x".as_slice() => Some(Err(fault)),
         Err(_) => None,
     }

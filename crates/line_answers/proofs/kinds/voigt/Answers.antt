@@ -7,7 +7,7 @@ use Rattle.text_defs.specs.Requests.{JahnAt}
 use Rattle.text_defs.specs.Requests.Request.{Voigt}
 use Rattle.jahn_grammar.specs.Symbols.{symbol_of}
 use Rattle.line_runs.specs.declared.refusals.Word.TheVariants as word
-use Rattle.line_answers.specs.Kinds.{group_at}
+use Rattle.line_answers.specs.Kinds.{IsVoigtFree, group_at}
 use Rattle.line_answers.proofs.Grown.{voigt_grown}
 use Rattle.line_answers.proofs.StopLaws.{as_refusal, first_unaccepted, one_large, rank_stop}
 use Rattle.line_answers.proofs.kinds.voigt.Goals as goal
@@ -51,3 +51,8 @@ returns-in-Err-TooLarge-clause-stop c = λ b told.
     (subst (λ (k : JahnSymbol). rank k ≤ 6) (sym is) c.in_ok-jahn.ensures.rank, tt)
     (subst (λ (k : JahnSymbol). HasVoigtShape k.factors) (sym is) (large.0, large.1)) (λ k x n. n)
     (subst (λ (k : JahnSymbol). JahnGrows q (record { jahn = k; column = b.column })) (sym is) large))
+
+pub returns-in-Ok-clause-free : goal.returns-in-Ok-clause-free
+returns-in-Ok-clause-free c = λ b told.
+    subst (λ (k : JahnSymbol). IsVoigtFree c.args.g.now.tree k c.args.weights c.in-Ok.free)
+    (sym (ap (λ (a : JahnAt). a.jahn) (c.in_ok-jahn.ensures.jahn b told))) c.in-Ok.ensures.free

@@ -1,4 +1,7 @@
-use Rattle.std.proofs.lemmas.Result.{on_ok_weaker}
+use Rattle.std.proofs.Common.{◌∙◌, arith, sym}
+use Rattle.std.proofs.lemmas.List.{length-map}
+use Rattle.std.proofs.lemmas.Result.{IfOk-weaker, on_ok_weaker}
+use Rattle.tensor_defs.specs.Tensor.{index_of}
 use Rattle.tensor_laws.proofs.Sets.{same_back}
 use Rattle.tensor_defs.specs.Group.{InGroup}
 use Rattle.tensor_defs.specs.Orders.{index_before}
@@ -34,3 +37,19 @@ returns-in-Err-clause-grows g c = λ large.
     let j = symbol_of c.args.jahn.now in
     grows_same j (In c.args.group.now) (InGroup c.args.g.now) index_before c.requires.group.members
     (table_grows j g.R.Rank.R (In c.args.group.now) c.in-Err.fault (c.in-Err.ensures j c.requires.shape) large)
+
+pub returns-in-Ok-clause-free : goal.returns-in-Ok-clause-free
+returns-in-Ok-clause-free g c =
+    let j = symbol_of c.args.jahn.now in
+    let told = c.in-Ok.ensures j c.requires.shape in
+    let a = form_table g.R.Rank.R c.in-Ok.form in
+    IfOk-weaker c.write_form.result _ _ (λ n is. (
+      a,
+      fits_admitted j (In c.args.group.now) (InGroup c.args.g.now) index_before a
+          (same_admitted j (In c.args.group.now) (InGroup c.args.g.now) c.requires.group.members) told.0,
+      is ∙ sym (length-map c.in-Ok.form.free (index_of g.R.Rank.R)),
+    )) c.write_form.ensures.free
+
+pub returns-in-Ok-clause-few : goal.returns-in-Ok-clause-few
+returns-in-Ok-clause-few g c =
+    IfOk-weaker c.write_form.result _ _ (λ n few. omega (arith, few, g.R.Rank.fits)) c.write_form.ensures.few

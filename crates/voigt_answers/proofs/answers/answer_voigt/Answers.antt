@@ -1,11 +1,13 @@
-use Rattle.std.proofs.Common.{ℕ, List, refl, subst}
-use Rattle.std.proofs.lemmas.Result.{on_ok_weaker}
+use Rattle.std.proofs.Common.{ℕ, List, ◌∙◌, refl, subst, sym}
+use Rattle.std.proofs.lemmas.List.{length-map}
+use Rattle.std.proofs.lemmas.Result.{IfOk-weaker, on_ok_weaker}
 use Rattle.tensor_defs.specs.Group.{InGroup}
 use Rattle.tensor_defs.specs.Voigt.{VoigtGrows}
 use Rattle.jahn_grammar.specs.Symbols.{symbol_of}
 use Rattle.magnetic_groups.specs.Sets.{In}
 use Rattle.tensor_laws.proofs.Sets.{same_back}
 use Rattle.table_answers.proofs.Told.{ok_always}
+use Rattle.voigt_table.specs.Blocks.{entry_at}
 use Rattle.voigt_table.specs.Tables.{voigt_of}
 use Rattle.answer_laws.proofs.Voigts.{one_blocks}
 use Rattle.voigt_answers.proofs.Told.{fault_grows, fault_plain, fault_shape, grows_voigt, voigt_same, written_shape}
@@ -57,3 +59,16 @@ returns-in-Err-clause-plain c = λ large.
 pub returns-in-Err-clause-shape : goal.returns-in-Err-clause-shape
 returns-in-Err-clause-shape c =
     fault_shape (symbol_of c.args.jahn.now) (In c.args.group.now) c.args.weights c.in-Err.fault _ refl c.in-Err.ensures
+
+pub returns-in-Ok-clause-free : goal.returns-in-Ok-clause-free
+returns-in-Ok-clause-free c =
+    let j = symbol_of c.args.jahn.now in
+    let v = c.in-Ok.table in
+    let told = c.in-Ok.ensures in
+    IfOk-weaker c.write_voigt.result _ _ (λ n is. (
+      v.sizes,
+      told.0,
+      voigt_of v,
+      voigt_same j (In c.args.group.now) (InGroup c.args.g.now) v.sizes c.args.weights (voigt_of v) c.requires.group.members told.1.2,
+      is ∙ sym (length-map v.free (entry_at v.sizes)),
+    )) c.write_voigt.ensures.free
