@@ -1,16 +1,16 @@
 -- The different members of a list, in their order.
 --   IsCounting      those that are at most a number
 --   counting_none, counting_more, counting_done
-use Rattle.std.proofs.Common.{◌≡◌, ℕ, ◌+◌, ◌<◌, ◌≤◌, Bool, true, false, List, [], ◌∷◌, ◌++◌, length, refl, ap, sym, ◌∙◌, inl, inr, subst, arith}
+use Rattle.std.proofs.Common.{◌≡◌, ℕ, ◌+◌, ◌≤◌, true, List, [], ◌∷◌, ◌++◌, length, refl, ap, sym, ◌∙◌, inl, inr, subst, arith}
 use Rattle.std.specs.Prelude.{Contains, IsTrue, ◌↔◌, nat_lt}
-use Rattle.std.proofs.lemmas.Bool.{cases_lt, false≢true}
+use Rattle.std.proofs.lemmas.Bool.{cases_lt}
 use Rattle.std.proofs.lemmas.Bool.Decides.{nat_tests}
 use Rattle.std.proofs.lemmas.List.{length_push}
 use Rattle.std.proofs.lemmas.List.Elements.{Contains-append_left, Contains-push, Contains-push_cases}
 use Rattle.list_laws.proofs.Lists.{none_held}
 use Rattle.list_laws.proofs.Members.{each_from, each_held}
 use Rattle.list_laws.proofs.Rising.{rising_push}
-use Rattle.tensor_defs.specs.Lists.{Each, IsRising}
+use Rattle.tensor_defs.specs.Lists.{IsRising}
 use Rattle.species.specs.Told.{AreWithin, HasDifferent}
 
 pub record IsCounting (ls : List ℕ) (n count : ℕ) : Type 0 where

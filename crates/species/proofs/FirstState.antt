@@ -1,9 +1,9 @@
 -- The first state is the subgroup.
 --   first_is_one    its representative is the identity
-use Rattle.std.proofs.Common.{◌≡◌, ◌≢◌, ℕ, zero, suc, ◌-◌, ◌<◌, ◌≤◌, List, [], ◌∷◌, length, get_or, refl, ap, sym, ◌∙◌, inl, inr, subst, arith}
+use Rattle.std.proofs.Common.{◌≡◌, ◌≢◌, List, [], ◌∷◌, sym, ◌∙◌, inl, inr, subst}
 use Rattle.std.specs.Prelude.{Contains, IsTrue, Some, slice_get}
 use Rattle.std.proofs.lemmas.Option.{same_Some, none-some}
-use Rattle.list_laws.proofs.Lists.{found_held, held_cases, held_here}
+use Rattle.list_laws.proofs.Lists.{found_held, held_cases}
 use Rattle.list_laws.proofs.Members.{each_held}
 use Rattle.tensor_defs.specs.Lists.{IsRising}
 use Rattle.tensor_defs.specs.Operation.{Operation, identity}

@@ -1,8 +1,7 @@
 -- The kind of a species by its leaders.
 --   leader_here     the first of some states that isn't told apart from a state
 --   kind_told       what the leaders tell of the kind
-use Rattle.std.proofs.Common.{◌≡◌, ◌≢◌, ℕ, ◌+◌, ◌-◌, ◌<◌, ◌≤◌, true, false, List, length, get_or, refl, ap, sym, ◌∙◌, inl, inr, subst, arith}
-use Rattle.std.specs.Prelude.{Some, slice_get}
+use Rattle.std.proofs.Common.{◌≡◌, ◌≢◌, ℕ, ◌+◌, ◌-◌, ◌<◌, ◌≤◌, true, false, List, length, get_or, ap, sym, ◌∙◌, inl, inr, subst, arith}
 use Rattle.std.proofs.lemmas.Bool.{cases_order}
 use Rattle.std.proofs.lemmas.Option.{slice_get-get_or, slice_get_within}
 use Rattle.tensor_defs.specs.Jahn.{JahnSymbol}
@@ -12,7 +11,7 @@ use Rattle.species.specs.declared.kinds.Kind.{Kind}
 use Rattle.species.specs.declared.kinds.Kind.TheVariants.{Full, Partial, Non}
 use Rattle.species.specs.Species.{AllApart, AreLeaders, AreToldApart, IsKind, IsLeader, IsNumber, NoneApart}
 use Rattle.species.specs.Told.{TellsKind, TellsOnes, TellsOwn}
-use Rattle.species.proofs.ToldApart.{apart_back, joined, not_own}
+use Rattle.species.proofs.ToldApart.{apart_back, joined}
 
 module _ (j : JahnSymbol) (F : Operation → Type 0) (reps : List Operation) (one : F identity) (ls : List ℕ)
     (are : AreLeaders j F reps ls) where

@@ -1,7 +1,7 @@
 -- The symbols of properties.
 --   property_is_symbol, property_rank    their powers are in range, and their ranks are 1 and 2
 --   at_symbol, err_at_symbol    what holds for every symbol of a shape, at one of them
-use Rattle.std.proofs.Common.{◌≡◌, ℕ, ◌≤◌, refl, subst, lit≤, Result, Ok, Err}
+use Rattle.std.proofs.Common.{◌≡◌, ◌≤◌, subst, lit≤, Result, Ok, Err}
 use Rattle.std.specs.Prelude.{IfErr, IfOk}
 use Rattle.tensor_defs.specs.Jahn.{IsJahnSymbol, JahnSymbol, rank}
 use Rattle.species.specs.declared.properties.Property.{Property}

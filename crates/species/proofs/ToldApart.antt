@@ -5,8 +5,7 @@
 --   apart_carries, carries_apart    states are told apart where the product of the inverse of the first representative and
 --                   the second carries some invariant tensor to another one
 --   state_carries, carries_state, none_carried    the elements of a state carry as its representative does; those of F don't
-use Rattle.std.proofs.Common.{◌≡◌, ℕ, ◌≤◌, ◌-◌, List, length, refl, sym, ◌∙◌, subst, arith}
-use Rattle.std.specs.Prelude.{Some, slice_get}
+use Rattle.std.proofs.Common.{◌≡◌, ℕ, ◌-◌, List, sym, ◌∙◌, arith}
 use Rattle.std.proofs.lemmas.Option.{same_Some}
 use Rattle.list_laws.proofs.Lists.{element_at}
 use Rattle.tensor_defs.specs.Jahn.{IsInvariant, JahnSymbol, rank}

@@ -1,5 +1,5 @@
 //! For each state the least state that isn't told apart from it.
-ghost use Rattle.std.specs.Prelude.{◌≡◌, ◌≤◌, ◌<◌, ℕ, IfOk, Some, length, slice_get};
+ghost use Rattle.std.specs.Prelude.{◌≡◌, ◌≤◌, ◌<◌, ◌↔◌, ℕ, Contains, IfOk, IsTrue, Some, length, slice_get};
 ghost use Rattle.tensor_defs.specs.Jahn.{JahnSymbol};
 ghost use Rattle.magnetic_groups.specs.Sets.{In};
 ghost use Rattle.species.specs.Species.{AreLeaders, IsLeader};
@@ -40,6 +40,13 @@ impl Leaders {
         self.numbers[place]
     }
 
+    /// Whether a state, counted from 1, is the least of those that aren't told apart from some state.
+    fn has(&self, number: usize) -> bool
+        ensures { IsTrue result ↔ Contains self.now number }
+    {
+        self.numbers.contains(&number)
+    }
+
     /// How many of the states are the least of those that aren't told apart from them.
     pub fn different(&self) -> usize
         requires { AreWithin self.now }
@@ -47,7 +54,7 @@ impl Leaders {
     {
         let mut count = 0;
         for place in 0..self.numbers.len() {
-            if self.numbers.contains(&(place + 1)) {
+            if self.has(place + 1) {
                 count += 1;
             }
         }

@@ -16,6 +16,3 @@ pub use leaders::Leaders;
 pub use properties::Property;
 pub use species::{Species, species_of};
 pub use state_marks::DifferFault;
-
-
-

@@ -3,6 +3,7 @@ ghost use Rattle.std.specs.Prelude.{◌≡◌, IfErr, IfOk};
 ghost use Rattle.tensor_defs.specs.Frames.{AllOf, IsFramed, IsPlain};
 ghost use Rattle.tensor_defs.specs.Jahn.{JahnSymbol};
 ghost use Rattle.magnetic_groups.specs.Sets.{In};
+ghost use Rattle.tensor_rank.specs.AnyShapes.{IsAnyShapeOf};
 ghost use Rattle.tensor_rank.specs.Shapes.{IsShapeOf};
 ghost use Rattle.state_marks.specs.Told.{MarksGrow};
 ghost use Rattle.species.specs.Species.{AreLeaders, IsKind, property_symbol};
@@ -14,7 +15,7 @@ use crate::properties::{Property, symbol_tree};
 use coset_states::States;
 use state_marks::DifferFault;
 use std::alloc::Global;
-use tensor_rank::{Rank, Shape, at_rank, compile};
+use tensor_rank::{AnyShape, Rank, Shape, at_rank, compile};
 
 /// Which states a property tells apart.
 #[derive(Drop)]
@@ -46,6 +47,18 @@ fn species_at<R: Rank>(
     Ok(Species { kind, classes })
 }
 
+/// The species for a symbol whose shape is known, whatever its rank.
+fn species_in(alloc: Global, states: &States, shape: AnyShape) -> Result<Species, DifferFault>
+    requires { IsFramed (In states.now.sub) }
+    ensures kind { IfOk result (λ s. (j : JahnSymbol) → IsAnyShapeOf j shape → IsKind j (In states.now.sub) states.now.reps s.kind) }
+    ensures classes { IfOk result (λ s. (j : JahnSymbol) → IsAnyShapeOf j shape → AreLeaders j (In states.now.sub) states.now.reps s.classes) }
+    ensures calm { IfOk result (λ _. (j : JahnSymbol) → IsAnyShapeOf j shape → MarksGrow j (In states.now.whole) (In states.now.sub) → ⊥) }
+    ensures grows { IfErr result (λ e. e ≡ DifferFault.TooLarge → (j : JahnSymbol) → IsAnyShapeOf j shape → MarksGrow j (In states.now.whole) (In states.now.sub)) }
+    ensures plain { IfErr result (λ e. e ≡ DifferFault.TooLarge → ¬ AllOf (In states.now.sub) IsPlain) }
+{
+    at_rank!(shape, s => species_at(alloc, states, &s))
+}
+
 /// Which states of a group under its subgroup a property tells apart, and the kind of the species. `TooLarge` exactly
 /// where the components of the property's tensor that distinguish the states grow too large, so never where the
 /// operations of the first state are signed permutations; `NoMemory` where memory is refused.
@@ -66,7 +79,7 @@ pub fn species_of(
         Err(_) => return Err(DifferFault::NoMemory),
     };
     match compile(alloc, &jahn) {
-        Ok(shape) => at_rank!(shape, s => species_at(alloc, states, &s)),
+        Ok(shape) => species_in(alloc, states, shape),
         Err(_) => Err(DifferFault::NoMemory),
     }
 }

@@ -1,8 +1,6 @@
-use Rattle.std.proofs.Common.{◌≡◌, ◌≤◌, ◌<◌, ◌-◌, ◌+◌, length, subst, sym, arith}
-use Rattle.std.specs.Prelude.{Contains, Some}
+use Rattle.std.proofs.Common.{◌-◌, arith}
 use Rattle.std.proofs.lemmas.Option.{slice_get_within}
 use Rattle.magnetic_groups.proofs.Cosets.{group_common, group_product}
-use Rattle.coset_states.specs.Numbering.{TellsState}
 use Rattle.species.proofs.StateMarks.{inverse_within, rep_within, seen_apart}
 use Rattle.species.proofs.apart.are_apart.Goals as goal
 

@@ -1,7 +1,6 @@
-use Rattle.std.proofs.Common.{◌≡◌, ◌+◌, ◌<◌, ◌≤◌, ℕ, false, true, inl, inr, arith, refl, subst, sym, ◌∙◌}
-use Rattle.std.proofs.lemmas.Bool.{cases_lt, false≢true}
+use Rattle.std.proofs.Common.{◌≡◌, arith, sym, ◌∙◌}
+use Rattle.std.proofs.lemmas.Bool.{false≢true}
 use Rattle.magnetic_groups.specs.Sets.{In}
-use Rattle.species.specs.Species.{AreToldApart}
 use Rattle.species.proofs.ToldApart.{not_own}
 use Rattle.species.proofs.StateMarks.{apart_more}
 use Rattle.species.proofs.leaders.leader_of.Goals as goal

@@ -1,4 +1,4 @@
-use Rattle.std.proofs.Common.{◌≡◌, ◌∙◌, ap, List, Bool, length, subst, sym}
+use Rattle.std.proofs.Common.{◌∙◌, ap, List, Bool, length, subst, sym}
 use Rattle.magnetic_groups.specs.Sets.{In}
 use Rattle.reduced_form.proofs.ToldLaws.{err_same}
 use Rattle.species.specs.Told.{AreCarried}
