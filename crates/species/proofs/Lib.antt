@@ -1,0 +1,7 @@
+mod Stable
+mod ToldApart
+mod StateMarks
+mod FirstState
+mod KindLaws
+mod Counting
+mod Symbols

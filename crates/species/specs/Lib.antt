@@ -1,0 +1,3 @@
+pub mod Species
+pub mod Told
+pub mod Laws
