@@ -101,8 +101,7 @@ pub fn run<I: Source, O: Sink>(
     ensures usage { (words.now ≡ [] → ⊥) → AreRefused (map string_bytes words.now) → IsUnstarted result × (sink.new ≡ sink.old) }
     ensures memory { (words.now ≡ [] → ⊥) → result ≡ Outcome.NoMemory → sink.new ≡ sink.old }
 
-    // A write fault is the only end of such a run by which faults of the sink rise.
-    ensures steady { (words.now ≡ [] → ⊥) → (result ≡ Outcome.WriteFault → ⊥) → O.faults sink.new ≡ O.faults sink.old }
+    // Accepted words end in the whole summary or want of memory, where no write failed.
     ensures whole { (words.now ≡ [] → ⊥) → (Rose (O.faults sink.old) (O.faults sink.new) → ⊥) → (run : words_of.Generate)
         → IsAccepted (map string_bytes words.now) run → IsWhole result }
 {
