@@ -22,9 +22,10 @@ use Rattle.tensor_defs.specs.States.{InDouble, IsState, IsSwappable, InPairGroup
 use Rattle.tensor_defs.specs.Symbols.{GroupSymbol}
 use Rattle.tensor_laws.proofs.Associativity.{product_assoc, product_assoc_back}
 use Rattle.tensor_laws.proofs.States.{one_state, state_at}
+use Rattle.tensor_laws.proofs.Groups.{IsGroup, one_times, times_one}
 use Rattle.text_defs.specs.AnswerTexts.{pairs_text}
 use Rattle.answer_laws.proofs.DomainStates.{one_state_list}
-use Rattle.answer_laws.proofs.Groups.{IsGroup, one_times, times_one, symbol_group}
+use Rattle.answer_laws.proofs.Groups.{symbol_group}
 use Rattle.answer_laws.proofs.Listings.{operations_listed}
 use Rattle.answer_laws.specs.Laws.{OnePairs}
 

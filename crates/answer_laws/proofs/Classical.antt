@@ -3,22 +3,24 @@
 --   text_stable         two texts that are not different are the same
 --   listed_or           a group of a symbol doesn't lack a listing
 --   outside_or_below    a group isn't both not below another and without a first element outside
-use Rattle.std.proofs.Common.{◌≡◌, ℕ, ◌+◌, Bool, true, false, cond, eqb, ◌≢◌, List, [], ◌∷◌, ◌++◌, length, refl, ap, sym, ◌∙◌}
+use Rattle.std.proofs.Common.{◌≡◌, ℕ, ◌+◌, arith, Bool, true, false, eqb, ◌≢◌, List, [], ◌∷◌, ◌++◌, length, refl, sym}
 use Rattle.std.proofs.Common.{◌⊎◌, inl, inr, subst}
-use Rattle.std.specs.Prelude.{Contains, IsTrue}
+use Rattle.std.specs.Prelude.{Contains, IsTrue, replicate}
 use Rattle.std.proofs.lemmas.Bool.Decides.{eqb_tells}
-use Rattle.list_laws.proofs.Lists.{held_here, held_later, held_cases, none_held}
-use Rattle.list_laws.proofs.Members.{each_held, each_from, each_map}
+use Rattle.std.proofs.lemmas.List.{get_or-replicate}
+use Rattle.list_laws.proofs.Lists.{heads, tails, held_here, held_later, held_cases, none_held}
+use Rattle.list_laws.proofs.Members.{each_held, each_from}
 use Rattle.tensor_defs.specs.Group.{InGroup, IsBelow}
 use Rattle.tensor_defs.specs.Lists.{Each, IsRising, IsListing}
 use Rattle.tensor_defs.specs.Operation.{Operation}
 use Rattle.tensor_defs.specs.OperationOrder.{comes_before}
 use Rattle.tensor_defs.specs.Symbols.{GroupSymbol, IsGroupSymbol}
 use Rattle.text_defs.specs.Refusals.{IsOutside}
-use Rattle.tensor_laws.proofs.Products.{both}
-use Rattle.answer_laws.proofs.Groups.{symbol_framed}
-use Rattle.answer_laws.proofs.Listings.{before_transitive}
-use Rattle.answer_laws.proofs.Matrices.{frame, marked, InFrame, is_in, same_matrix, same_matrix_true, for_all, is_in_marked, from_test}
+use Rattle.op_matrix.specs.Table.{place}
+use Rattle.op_matrix.proofs.Listed.{Placed}
+use Rattle.magnetic_groups.specs.Marks.{marked_below}
+use Rattle.magnetic_groups.proofs.Marked.{contains_of, marked_rising}
+use Rattle.answer_laws.proofs.Groups.{symbol_placed}
 
 abbrev pub NotFalse : Type 0 → Type 0
 NotFalse A = (A → ⊥) → ⊥
@@ -33,12 +35,6 @@ text_told [] (y ∷ b) = inr (λ e. cc)
 text_told (x ∷ a) [] = inr (λ e. cc)
 text_told (x ∷ a) (y ∷ b) = by_heads (eqb_tells x y) (text_told a b)
   where
-    heads : x ∷ a ≡ y ∷ b → x ≡ y
-    heads e = cc
-
-    tails : x ∷ a ≡ y ∷ b → a ≡ b
-    tails e = cc
-
     by_heads : ((eqb x y ≡ true) × (x ≡ y)) ⊎ ((eqb x y ≡ false) × (x ≢ y)) → (a ≡ b) ⊎ (a ≡ b → ⊥) →
         (x ∷ a ≡ y ∷ b) ⊎ (x ∷ a ≡ y ∷ b → ⊥)
     by_heads (inl is) (inl e) = inl (λ i. is.1 i ∷ e i)
@@ -48,78 +44,22 @@ text_told (x ∷ a) (y ∷ b) = by_heads (eqb_tells x y) (text_told a b)
 pub text_stable : (a b : List ℕ) → NotFalse (a ≡ b) → a ≡ b
 text_stable a b h = elim (text_told a b) [ inl e ↦ e | inr n ↦ absurd (h n) ]
 
--- ---- the operations of a frame in their order
-abbrev put : Operation → List Operation → List Operation
-put g [] = g ∷ []
-put g (k ∷ ks) = cond (comes_before g k) (g ∷ k ∷ ks) (k ∷ put g ks)
+-- ---- the operations in their order
+every_place : List Bool
+every_place = replicate 128 true
 
-abbrev sorted : List Operation → List Operation
-sorted [] = []
-sorted (g ∷ gs) = put g (sorted gs)
+in_order : List Operation
+in_order = marked_below 128 every_place
 
--- each matrix without and with the mark
-abbrev both_marks : List Operation → List Operation
-both_marks [] = []
-both_marks (g ∷ gs) = marked false g ∷ marked true g ∷ both_marks gs
-
-unfoldable in_order : Bool → List Operation
-in_order k = both_marks (sorted (frame k))
-
-abbrev is_chain : List Operation → Bool
-is_chain [] = true
-is_chain (g ∷ []) = true
-is_chain (g ∷ k ∷ ks) = cond (comes_before g k) (is_chain (k ∷ ks)) false
-
-chains : (k : Bool) → is_chain (in_order k) ≡ true
-unfolding in_order frame comes_before
-chains true = refl
-chains false = refl
-
-all_in_order : (k : Bool) → for_all (frame k) (λ g. is_in (sorted (frame k)) g) ≡ true
-unfolding frame comes_before
-all_in_order true = refl
-all_in_order false = refl
-
-with_marks : (ks : List Operation) (g : Operation) → is_in ks g ≡ true → Contains (both_marks ks) g
-with_marks [] g e = absurd cc
-with_marks (k ∷ ks) g e = by_case (same_matrix k g) refl (with_marks ks g) e
-  where
-    by_mark : (m : Bool) → g ≡ marked m k → Contains (both_marks (k ∷ ks)) g
-    by_mark false is =
-        subst (λ x. Contains (both_marks (k ∷ ks)) x) (sym is)
-        (held_here (marked false k) (marked true k ∷ both_marks ks))
-    by_mark true is =
-        subst (λ x. Contains (both_marks (k ∷ ks)) x) (sym is)
-        (held_later (marked true k) (marked false k) (marked true k ∷ both_marks ks)
-        (held_here (marked true k) (both_marks ks)))
-
-    by_case : (b : Bool) → same_matrix k g ≡ b → (is_in ks g ≡ true → Contains (both_marks ks) g) →
-        cond b true (is_in ks g) ≡ true → Contains (both_marks (k ∷ ks)) g
-    by_case true is more e = by_mark g.primed (same_matrix_true k g is)
-    by_case false is more e =
-        held_later g (marked false k) (marked true k ∷ both_marks ks)
-        (held_later g (marked true k) (both_marks ks) (more e))
-
-frame_held : (k : Bool) (g : Operation) → InFrame k g → Contains (in_order k) g
+in_order_rises : IsRising comes_before in_order
 unfolding in_order
-frame_held k g f =
-    let a = from_test (frame k) (λ g. is_in (sorted (frame k)) g) (all_in_order k) g f in
-    with_marks (sorted (frame k)) g
-    (ap (is_in (sorted (frame k))) a.same ∙ is_in_marked (sorted (frame k)) g.primed a.listed ∙ a.passes)
+in_order_rises = marked_rising 128 every_place (omega arith)
 
-chain_rising : (gs : List Operation) → is_chain gs ≡ true → IsRising comes_before gs
-chain_rising [] e = tt
-chain_rising (g ∷ []) e = (tt, tt)
-chain_rising (g ∷ k ∷ ks) e =
-    let a = both (comes_before g k) (is_chain (k ∷ ks)) e in
-    let rest : IsRising comes_before (k ∷ ks) = chain_rising (k ∷ ks) a.1 in (
-      (
-        a.0,
-        each_map (λ x. IsTrue (comes_before k x)) (λ x. IsTrue (comes_before g x))
-            (λ x h. before_transitive g k x a.0 h) ks rest.0,
-      ),
-      rest,
-    )
+placed_held : (g : Operation) → Placed g → Contains in_order g
+unfolding in_order every_place
+placed_held g p =
+    subst (Contains in_order) (sym p.1)
+    (contains_of 128 (place g) every_place p.0 (get_or-replicate 128 (place g) true false p.0))
 
 -- ---- listings
 -- the members of a list that are in a set
@@ -175,13 +115,12 @@ pub record Listed (S : Operation → Type 0) : Type 0 where
 
 pub listed_or : (t : GroupSymbol) → IsGroupSymbol t → NotFalse (Listed (InGroup t))
 listed_or t h fails =
-    let k = symbol_framed t h in
-    selected (InGroup t) (in_order k.0) (chain_rising (in_order k.0) (chains k.0))
+    selected (InGroup t) in_order in_order_rises
     (λ s. fails (record {
       elements = s.members;
       listing = record {
         rising = s.rising;
-        members = λ g. (λ c. (s.from g c).1, λ i. s.held g (frame_held k.0 g (k.1 g i)) i);
+        members = λ g. (λ c. (s.from g c).1, λ i. s.held g (placed_held g (symbol_placed t h g i)) i);
       };
     }))
 

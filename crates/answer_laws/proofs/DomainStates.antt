@@ -13,8 +13,9 @@ use Rattle.tensor_defs.specs.Operation.{Entry, Row, Operation, identity}
 use Rattle.tensor_defs.specs.OperationOrder.{comes_before}
 use Rattle.tensor_defs.specs.States.{Times, AreStates}
 use Rattle.tensor_laws.proofs.Associativity.{product_assoc_back}
+use Rattle.tensor_laws.proofs.Groups.{IsGroup, times_one}
 use Rattle.text_defs.specs.AnswerTexts.{states_text}
-use Rattle.answer_laws.proofs.Groups.{IsGroup, times_one, symbol_group}
+use Rattle.answer_laws.proofs.Groups.{symbol_group}
 use Rattle.answer_laws.proofs.Listings.{before_irreflexive, before_transitive}
 use Rattle.answer_laws.specs.Laws.{OneStates}
 

@@ -5,7 +5,6 @@ pub mod Elements
 pub mod Lines
 pub mod Voigts
 pub mod SameTensors
-pub mod Matrices
 pub mod Groups
 pub mod DomainStates
 pub mod Roots

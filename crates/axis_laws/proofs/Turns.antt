@@ -1,4 +1,5 @@
 -- A list that diagonal members and the threefold rotation leave the same is left the same by each hexagonal member.
+--   hexagonal_kept  a hexagonal member is a power of the threefold rotation times a diagonal one
 use Rattle.std.proofs.Common.{◌≡◌, ℕ, ◌<◌, Bool, true, false, refl, sym, ◌∙◌, subst, lit<, inl, inr}
 use Rattle.std.specs.Prelude.{nat_eq}
 use Rattle.std.proofs.lemmas.Bool.{eqb-true}

@@ -10,14 +10,6 @@ use Rattle.curie_runs.specs.CurieTexts.{IsCurieText, curie_at, curie_text}
 abbrev pub Tried : List ℕ → ℕ → ℕ → Type 0
 Tried word count place = Furthest IsCurieText (λ k z. z ≡ curie_text (curie_at k)) count word place
 
-pub nothing_tried : (word : List ℕ) → Tried word 0 0
-nothing_tried word = record {
-  within = omega arith;
-  begins = (curie_text Inf, (Inf, refl));
-  none = λ k lt. absurd (omega arith);
-  longest = λ k lt. absurd (omega arith);
-}
-
 place_of : Curie → ℕ
 place_of Inf = 0
 place_of InfM = 1

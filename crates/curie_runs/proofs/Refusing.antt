@@ -1,14 +1,15 @@
 -- Words that have an answer are not refused.
-use Rattle.std.proofs.Common.{◌≡◌, ℕ, ◌+◌, ◌≤◌, List, [], ◌∷◌, cond, eqb, length, get_or, refl, ap, sym, subst, ◌∙◌, arith, inl, inr}
+use Rattle.std.proofs.Common.{◌≡◌, ℕ, ◌≤◌, List, [], cond, eqb, length, get_or, refl, ap, sym, subst, ◌∙◌, arith, inl, inr}
 use Rattle.tensor_defs.specs.Jahn.{JahnSymbol, rank}
 use Rattle.text_laws.specs.Laws.{OneJahnSymbol}
 use Rattle.limiting_defs.specs.declared.Curie.{Curie}
 use Rattle.limiting_defs.specs.declared.Curie.TheVariants.{Inf, InfM, Inf2, InfOverM, InfOverMM}
 use Rattle.limiting_groups.specs.CurieTables.{CurieGrows}
-use Rattle.tool_runs.specs.Tools.{FirstLongFrom, NoneLong, Words}
+use Rattle.tool_runs.specs.Tools.{Words}
 use Rattle.tool_runs.specs.declared.refusals.RefusalName.{RefusalName}
 use Rattle.tool_runs.specs.declared.refusals.RefusalName.TheVariants as Name
 use Rattle.tool_runs.specs.declared.refusals.ToolRefusal.{ToolRefusal}
+use Rattle.tool_runs.proofs.LongWords.{none_first}
 use Rattle.curie_runs.specs.CurieTexts.{curie_text}
 use Rattle.curie_runs.specs.CurieWords.{IsAsked, Refuses, RefusesAs}
 
@@ -27,11 +28,6 @@ read_back InfOverMM = refl
 
 one_group : (g h : Curie) (word : List ℕ) → word ≡ curie_text g → word ≡ curie_text h → g ≡ h
 one_group g h word p q = sym (read_back g) ∙ ap curie_of (sym p ∙ q) ∙ read_back h
-
-none_first : (ws : Words) (k n : ℕ) → NoneLong ws → FirstLongFrom k ws n → ⊥
-none_first [] k n none first = first
-none_first (w ∷ ws) k n none (inl x) = let a = none.0 in let b = x.0 in omega arith
-none_first (w ∷ ws) k n none (inr x) = none_first ws (k + 1) n none.1 x.1
 
 module _ (law : OneJahnSymbol) (words : Words) (group : Curie) (j : JahnSymbol) (asked : IsAsked words group j)
     (small : rank j ≤ 6) (calm : CurieGrows j group → ⊥) where

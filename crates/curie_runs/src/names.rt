@@ -1,7 +1,8 @@
 //! The texts of limiting groups.
-ghost use Rattle.std.specs.Prelude.{◌≡◌, ◌≢◌, ◌<◌, ◌≤◌, length, slice_index, take};
+ghost use Rattle.std.specs.Prelude.{◌≡◌, ◌<◌, length};
 ghost use Rattle.curie_runs.specs.CurieTexts.{ReadsCurie, curie_at, curie_text};
 
+use group_symbol::common_front;
 use limiting_groups::Curie;
 use text_defs::Fault;
 
@@ -31,20 +32,6 @@ pub fn curie_text(group: Curie) -> &'static [u8]
         Curie::InfOverM => b"inf/m",
         Curie::InfOverMM => b"inf/mm",
     }
-}
-
-/// How many bytes two texts have in common from their beginnings.
-fn common_front(a: &[u8], b: &[u8]) -> usize
-    ensures within_a { result ≤ length a.now }
-    ensures within_b { result ≤ length b.now }
-    ensures same { take result a.now ≡ take result b.now }
-    ensures differ { result < length a.now → result < length b.now → slice_index a.now result ≢ slice_index b.now result }
-{
-    let mut at = 0;
-    while at < a.len() && at < b.len() && a[at] == b[at] {
-        at += 1;
-    }
-    at
 }
 
 /// The limiting group whose text the whole word is; else the length of the longest front of the word that begins such a

@@ -23,229 +23,144 @@ pub(crate) struct LongForm {
     pub ending: &'static [u8],
 }
 
+// The pieces: signs in the first position, and behind a dot those in a later one.
+const TWO_X: Piece = Piece {
+    text: b"2",
+    kind: Two,
+    direction: X,
+};
+
+const TWO_Z: Piece = Piece {
+    text: b"2",
+    kind: Two,
+    direction: Z,
+};
+
+const FOUR_Z: Piece = Piece {
+    text: b"4",
+    kind: Four,
+    direction: Z,
+};
+
+const SIX_Z: Piece = Piece {
+    text: b"6",
+    kind: Six,
+    direction: Z,
+};
+
+const BAR_THREE_Z: Piece = Piece {
+    text: b"-3",
+    kind: Bar3,
+    direction: Z,
+};
+
+const MIRROR_X: Piece = Piece {
+    text: b"/m",
+    kind: Mirror,
+    direction: X,
+};
+
+const MIRROR_Y: Piece = Piece {
+    text: b"/m",
+    kind: Mirror,
+    direction: Y,
+};
+
+const MIRROR_Z: Piece = Piece {
+    text: b"/m",
+    kind: Mirror,
+    direction: Z,
+};
+
+const MIRROR_XMY: Piece = Piece {
+    text: b"/m",
+    kind: Mirror,
+    direction: XmY,
+};
+
+const NEXT_TWO_X: Piece = Piece {
+    text: b".2",
+    kind: Two,
+    direction: X,
+};
+
+const NEXT_TWO_Y: Piece = Piece {
+    text: b".2",
+    kind: Two,
+    direction: Y,
+};
+
+const NEXT_TWO_Z: Piece = Piece {
+    text: b".2",
+    kind: Two,
+    direction: Z,
+};
+
+const NEXT_TWO_XMY: Piece = Piece {
+    text: b".2",
+    kind: Two,
+    direction: XmY,
+};
+
+const THIRD_TWO_Y: Piece = Piece {
+    text: b".1.2",
+    kind: Two,
+    direction: Y,
+};
+
+const NEXT_BAR_THREE: Piece = Piece {
+    text: b".-3",
+    kind: Bar3,
+    direction: XYZ,
+};
+
 /// The long forms, in the order of their parents.
 static FORMS: [LongForm; 8] = [
     LongForm {
         parent: 10,
-        pieces: &[
-            Piece {
-                text: b"2",
-                kind: Two,
-                direction: X,
-            },
-            Piece {
-                text: b"/m",
-                kind: Mirror,
-                direction: X,
-            },
-            Piece {
-                text: b".2",
-                kind: Two,
-                direction: Y,
-            },
-            Piece {
-                text: b"/m",
-                kind: Mirror,
-                direction: Y,
-            },
-            Piece {
-                text: b".2",
-                kind: Two,
-                direction: Z,
-            },
-            Piece {
-                text: b"/m",
-                kind: Mirror,
-                direction: Z,
-            },
-        ],
+        pieces: &[TWO_X, MIRROR_X, NEXT_TWO_Y, MIRROR_Y, NEXT_TWO_Z, MIRROR_Z],
         ending: b"",
     },
     LongForm {
         parent: 18,
         pieces: &[
-            Piece {
-                text: b"4",
-                kind: Four,
-                direction: Z,
-            },
-            Piece {
-                text: b"/m",
-                kind: Mirror,
-                direction: Z,
-            },
-            Piece {
-                text: b".2",
-                kind: Two,
-                direction: X,
-            },
-            Piece {
-                text: b"/m",
-                kind: Mirror,
-                direction: X,
-            },
-            Piece {
-                text: b".2",
-                kind: Two,
-                direction: XmY,
-            },
-            Piece {
-                text: b"/m",
-                kind: Mirror,
-                direction: XmY,
-            },
+            FOUR_Z,
+            MIRROR_Z,
+            NEXT_TWO_X,
+            MIRROR_X,
+            NEXT_TWO_XMY,
+            MIRROR_XMY,
         ],
         ending: b"",
     },
     LongForm {
         parent: 27,
-        pieces: &[
-            Piece {
-                text: b"-3",
-                kind: Bar3,
-                direction: Z,
-            },
-            Piece {
-                text: b".2",
-                kind: Two,
-                direction: X,
-            },
-            Piece {
-                text: b"/m",
-                kind: Mirror,
-                direction: X,
-            },
-        ],
+        pieces: &[BAR_THREE_Z, NEXT_TWO_X, MIRROR_X],
         ending: b"",
     },
     LongForm {
         parent: 28,
-        pieces: &[
-            Piece {
-                text: b"-3",
-                kind: Bar3,
-                direction: Z,
-            },
-            Piece {
-                text: b".2",
-                kind: Two,
-                direction: X,
-            },
-            Piece {
-                text: b"/m",
-                kind: Mirror,
-                direction: X,
-            },
-        ],
+        pieces: &[BAR_THREE_Z, NEXT_TWO_X, MIRROR_X],
         ending: b".1",
     },
     LongForm {
         parent: 29,
-        pieces: &[
-            Piece {
-                text: b"-3",
-                kind: Bar3,
-                direction: Z,
-            },
-            Piece {
-                text: b".1.2",
-                kind: Two,
-                direction: Y,
-            },
-            Piece {
-                text: b"/m",
-                kind: Mirror,
-                direction: Y,
-            },
-        ],
+        pieces: &[BAR_THREE_Z, THIRD_TWO_Y, MIRROR_Y],
         ending: b"",
     },
     LongForm {
         parent: 37,
-        pieces: &[
-            Piece {
-                text: b"6",
-                kind: Six,
-                direction: Z,
-            },
-            Piece {
-                text: b"/m",
-                kind: Mirror,
-                direction: Z,
-            },
-            Piece {
-                text: b".2",
-                kind: Two,
-                direction: X,
-            },
-            Piece {
-                text: b"/m",
-                kind: Mirror,
-                direction: X,
-            },
-            Piece {
-                text: b".2",
-                kind: Two,
-                direction: Y,
-            },
-            Piece {
-                text: b"/m",
-                kind: Mirror,
-                direction: Y,
-            },
-        ],
+        pieces: &[SIX_Z, MIRROR_Z, NEXT_TWO_X, MIRROR_X, NEXT_TWO_Y, MIRROR_Y],
         ending: b"",
     },
     LongForm {
         parent: 39,
-        pieces: &[
-            Piece {
-                text: b"2",
-                kind: Two,
-                direction: Z,
-            },
-            Piece {
-                text: b"/m",
-                kind: Mirror,
-                direction: Z,
-            },
-            Piece {
-                text: b".-3",
-                kind: Bar3,
-                direction: XYZ,
-            },
-        ],
+        pieces: &[TWO_Z, MIRROR_Z, NEXT_BAR_THREE],
         ending: b"",
     },
     LongForm {
         parent: 42,
-        pieces: &[
-            Piece {
-                text: b"4",
-                kind: Four,
-                direction: Z,
-            },
-            Piece {
-                text: b"/m",
-                kind: Mirror,
-                direction: Z,
-            },
-            Piece {
-                text: b".-3",
-                kind: Bar3,
-                direction: XYZ,
-            },
-            Piece {
-                text: b".2",
-                kind: Two,
-                direction: XmY,
-            },
-            Piece {
-                text: b"/m",
-                kind: Mirror,
-                direction: XmY,
-            },
-        ],
+        pieces: &[FOUR_Z, MIRROR_Z, NEXT_BAR_THREE, NEXT_TWO_XMY, MIRROR_XMY],
         ending: b"",
     },
 ];

@@ -1,5 +1,6 @@
 -- The furthest place of several alternatives, tried one after another.
-use Rattle.std.proofs.Common.{◌≡◌, ◌≢◌, ℕ, zero, suc, ◌+◌, ◌<◌, ◌≤◌, List, [], ◌∷◌, ◌++◌, length, get_or, take, drop, refl, sym, ap, subst, ◌∙◌, arith, inl, inr}
+use Rattle.std.proofs.Common.{◌≡◌, ◌≢◌, ℕ, zero, suc, ◌+◌, ◌<◌, ◌≤◌, List, [], ◌∷◌, ◌++◌, length, get_or, take, drop}
+use Rattle.std.proofs.Common.{refl, sym, ap, subst, ◌∙◌, arith, inl, inr}
 use Rattle.std.proofs.lemmas.Bool.{cases_lt}
 use Rattle.std.proofs.lemmas.List.{take-append-drop, length-append, length-take, get_or-take, get_or_append_left}
 use Rattle.text_defs.specs.Languages.{Begins, IsFaultPlace, IsFaulty}
@@ -22,24 +23,34 @@ Furthest-start Text Alternative word some = record {
   longest = λ k lt. absurd (omega arith);
 }
 
-module _ (Text : List ℕ → Type 0) (Alternative : ℕ → List ℕ → Type 0) (count : ℕ) (word : List ℕ) (place : ℕ) (h : Furthest Text Alternative count word place) where
+module _ (Text : List ℕ → Type 0) (Alternative : ℕ → List ℕ →
+    Type 0) (count : ℕ) (word : List ℕ) (place : ℕ) (h : Furthest Text Alternative count word place) where
   pub Furthest-skip : ((z : List ℕ) → ¬ Alternative count z) → Furthest Text Alternative (count + 1) word place
   Furthest-skip empty = record {
     within = h.within;
     begins = h.begins;
     none = λ k lt a. elim (cases_lt k count) [ inl before ↦ h.none k before a | inr after ↦ empty word (at_last k lt after word a) ];
-    longest = λ k lt n fits more b. elim (cases_lt k count) [ inl before ↦ h.longest k before n fits more b | inr after ↦ empty (take n word ++ b.0) (at_last k lt after (take n word ++ b.0) b.1) ];
+    longest = λ k lt n fits more b. elim (cases_lt k count) [
+      | inl before ↦ h.longest k before n fits more b
+      | inr after ↦ empty (take n word ++ b.0)
+          (at_last k lt after (take n word ++ b.0) b.1)
+    ];
   }
     where
       at_last : (k : ℕ) → k < count + 1 → count ≤ k → (z : List ℕ) → Alternative k z → Alternative count z
       at_last k lt after z a = let P : ℕ → Type 0 = λ (j : ℕ). Alternative j z in let e : k ≡ count = omega arith in subst P e a
 
-  pub Furthest-next : (m new : ℕ) → IsFaulty (Alternative count) word m → place ≤ new → m ≤ new → new ≤ length word → Begins Text (take new word) → Furthest Text Alternative (count + 1) word new
+  pub Furthest-next : (m new : ℕ) → IsFaulty (Alternative count) word m → place ≤ new → m ≤ new → new ≤ length word →
+      Begins Text (take new word) → Furthest Text Alternative (count + 1) word new
   Furthest-next m new f above_place above_m fits_new begins_new = record {
     within = fits_new;
     begins = begins_new;
     none = λ k lt a. elim (cases_lt k count) [ inl before ↦ h.none k before a | inr after ↦ f.none (at_last k lt after word a) ];
-    longest = λ k lt n fits more b. elim (cases_lt k count) [ inl before ↦ h.longest k before n fits (omega arith) b | inr after ↦ f.place_is.longest n fits (omega arith) (b.0, at_last k lt after (take n word ++ b.0) b.1) ];
+    longest = λ k lt n fits more b. elim (cases_lt k count) [
+      | inl before ↦ h.longest k before n fits (omega arith) b
+      | inr after ↦ f.place_is.longest n fits (omega arith)
+          (b.0, at_last k lt after (take n word ++ b.0) b.1)
+    ];
   }
     where
       at_last : (k : ℕ) → k < count + 1 → count ≤ k → (z : List ℕ) → Alternative k z → Alternative count z
@@ -48,7 +59,8 @@ module _ (Text : List ℕ → Type 0) (Alternative : ℕ → List ℕ → Type 0
   pub Furthest-stay : (m : ℕ) → IsFaulty (Alternative count) word m → m ≤ place → Furthest Text Alternative (count + 1) word place
   Furthest-stay m f le = Furthest-next m place f (omega arith) le h.within h.begins
 
-  pub Furthest-go : (m : ℕ) → ((z : List ℕ) → Alternative count z → Text z) → IsFaulty (Alternative count) word m → place ≤ m → Furthest Text Alternative (count + 1) word m
+  pub Furthest-go : (m : ℕ) → ((z : List ℕ) → Alternative count z → Text z) → IsFaulty (Alternative count) word m →
+      place ≤ m → Furthest Text Alternative (count + 1) word m
   Furthest-go m to f le = Furthest-next m m f le (omega arith) f.place_is.within (f.place_is.begins.0, to _ f.place_is.begins.1)
 
   pub Furthest-all : ((z : List ℕ) → Text z → (k : ℕ) × (k < count) × Alternative k z) → IsFaulty Text word place
@@ -63,7 +75,9 @@ module _ (Text : List ℕ → Type 0) (Alternative : ℕ → List ℕ → Type 0
 
 -- ---- a single text
 
-pub single_faulty : (text word : List ℕ) (n : ℕ) → n ≤ length text → n ≤ length word → take n text ≡ take n word → (n < length text → n < length word → get_or text n 0 ≢ get_or word n 0) → (n ≡ length text → n ≡ length word → ⊥) → IsFaulty (λ z. z ≡ text) word n
+pub single_faulty : (text word : List ℕ) (n : ℕ) → n ≤ length text → n ≤ length word → take n text ≡ take n word →
+    (n < length text → n < length word → get_or text n 0 ≢ get_or word n 0) → (n ≡ length text → n ≡ length word → ⊥) →
+    IsFaulty (λ z. z ≡ text) word n
 single_faulty text word n in_text in_word same differ part = record {
   none = λ e.
       elim (cases_lt n (length text)) [

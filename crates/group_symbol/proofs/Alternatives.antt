@@ -19,8 +19,16 @@ alternative_text : (k : ℕ) (z : List ℕ) → Alternative k z → IsGroupText 
 alternative_text k z (inl h) = (grey_one, inr (h.1, refl))
 alternative_text k z (inr h) = (h.0, inl h.2)
 
-pub first_tried : (word : List ℕ) (n : ℕ) → n ≤ 2 → n ≤ length word → take n (codes "1'") ≡ take n word → (n < 2 → n < length word → get_or (codes "1'") n 0 ≢ get_or word n 0) → (n ≡ 2 → length word ≡ 2 → ⊥) → Tried word 1 n
-first_tried word n in_text in_word same differ part = Furthest-go IsGroupText Alternative 0 word 0 (Furthest-start IsGroupText Alternative word (codes "1'", (grey_one, inr (refl, refl)))) n (alternative_text 0) (same_faulty (λ z. z ≡ codes "1'") (Alternative 0) (λ z e. inl (refl, e)) (λ z a. elim a [ inl h ↦ h.1 | inr h ↦ absurd (no_zero h.0.parent h.1 h.2.symbol.first) ]) word n (single_faulty (codes "1'") word n in_text in_word same differ (λ a b. part a (omega arith)))) (omega arith)
+pub first_tried : (word : List ℕ) (n : ℕ) → n ≤ 2 → n ≤ length word → take n (codes "1'") ≡ take n word →
+    (n < 2 → n < length word → get_or (codes "1'") n 0 ≢ get_or word n 0) → (n ≡ 2 → length word ≡ 2 → ⊥) → Tried word 1 n
+first_tried word n in_text in_word same differ part =
+    Furthest-go IsGroupText Alternative 0 word 0 (Furthest-start IsGroupText Alternative word (
+      codes "1'",
+      (grey_one, inr (refl, refl)),
+    )) n (alternative_text 0)
+    (same_faulty (λ z. z ≡ codes "1'") (Alternative 0) (λ z e. inl (refl, e))
+    (λ z a. elim a [ inl h ↦ h.1 | inr h ↦ absurd (no_zero h.0.parent h.1 h.2.symbol.first) ]) word n
+    (single_faulty (codes "1'") word n in_text in_word same differ (λ a b. part a (omega arith)))) (omega arith)
   where
     no_zero : (k : ℕ) → k ≡ 0 → 1 ≤ k → ⊥
     no_zero k e h = omega arith

@@ -10,7 +10,8 @@ use Rattle.group_symbol.specs.Parts.{IsSuffixText, IsEnding, IsEndingText}
 use Rattle.group_symbol.proofs.SuffixRows.{no_suffix_is_one}
 
 -- The ending of a plain text behind 49 is grey.
-ending_grey : (parent : ℕ) (plain grey : Bool) (s : Setting) (c : ℕ) (z : List ℕ) → IsEnding parent plain (49 ∷ c ∷ z) grey s → (c ≡ 39) × (grey ≡ true) × IsSuffix parent z s
+ending_grey : (parent : ℕ) (plain grey : Bool) (s : Setting) (c : ℕ) (z : List ℕ) →
+    IsEnding parent plain (49 ∷ c ∷ z) grey s → (c ≡ 39) × (grey ≡ true) × IsSuffix parent z s
 ending_grey parent plain true s c z h =
     let is : c ∷ z ≡ 39 ∷ h.suffix = tails _ _ _ _ h.text in
     let rest : z ≡ h.suffix = tails _ _ _ _ is in
@@ -33,7 +34,10 @@ pub grey_ending : (parent : ℕ) (z : List ℕ) (s : Setting) → IsSuffix paren
 grey_ending parent z s h = record { is_plain = λ _. refl; suffix = z; is_suffix = h; text = refl }
 
 grey_wrong_one : (parent : ℕ) → IsFaulty (IsEndingText parent true) (49 ∷ []) 1
-grey_wrong_one parent = faulty (IsEndingText parent true) (49 ∷ []) 1 (λ e. never e.0.0 e.0.1 e.1) (refl, (39 ∷ [], ((true, found.0), grey_ending parent [] found.0 found.1)))
+grey_wrong_one parent = faulty (IsEndingText parent true) (49 ∷ []) 1 (λ e. never e.0.0 e.0.1 e.1) (
+  refl,
+  (39 ∷ [], ((true, found.0), grey_ending parent [] found.0 found.1)),
+)
   where
     found : IsSuffixText parent []
     found = no_suffix_is_one parent
@@ -52,12 +56,15 @@ grey_wrong_one parent = faulty (IsEndingText parent true) (49 ∷ []) 1 (λ e. n
     never false s h = apart 49 refl (suffix_first parent s 49 [] (retext s (49 ∷ []) h.suffix h.text h.is_suffix))
 
 grey_wrong_two : (parent c : ℕ) (cs : List ℕ) → c ≢ 39 → IsFaulty (IsEndingText parent true) (49 ∷ c ∷ cs) 1
-grey_wrong_two parent c cs ne = faulty (IsEndingText parent true) (49 ∷ c ∷ cs) 1 (λ e. ne (ending_grey parent true e.0.0 e.0.1 c cs e.1).0) ((39 ∷ [], ((true, found.0), grey_ending parent [] found.0 found.1)), λ z e. ne (ending_grey parent true e.0.0 e.0.1 c z e.1).0)
+grey_wrong_two parent c cs ne =
+    faulty (IsEndingText parent true) (49 ∷ c ∷ cs) 1 (λ e. ne (ending_grey parent true e.0.0 e.0.1 c cs e.1).0)
+    ((39 ∷ [], ((true, found.0), grey_ending parent [] found.0 found.1)), λ z e. ne (ending_grey parent true e.0.0 e.0.1 c z e.1).0)
   where
     found : IsSuffixText parent []
     found = no_suffix_is_one parent
 
-pub grey_wrong : (parent : ℕ) (word : List ℕ) → 0 < length word → get_or word 0 0 ≡ 49 → (1 < length word → get_or word 1 0 ≢ 39) → IsFaulty (IsEndingText parent true) word 1
+pub grey_wrong : (parent : ℕ) (word : List ℕ) → 0 < length word → get_or word 0 0 ≡ 49 →
+    (1 < length word → get_or word 1 0 ≢ 39) → IsFaulty (IsEndingText parent true) word 1
 grey_wrong parent [] some is wrong = absurd (omega arith)
 grey_wrong parent (b ∷ []) some is wrong = rw is (grey_wrong_one parent)
 grey_wrong parent (b ∷ c ∷ cs) some is wrong = rw is (grey_wrong_two parent c cs (wrong (omega arith)))
@@ -67,13 +74,16 @@ grey_front parent cs = record {
   within = omega arith;
   some = λ s. ((true, s.0), grey_ending parent cs s.0 s.1);
   only = λ e. (e.0.1, (ending_grey parent true e.0.0 e.0.1 39 cs e.1).2);
-  stop = λ m h. subst (StopsAt (IsEndingText parent true) (49 ∷ 39 ∷ cs)) (two_more m) (same_stop (IsSuffixText parent) (λ z. IsEndingText parent true (49 ∷ 39 ∷ z)) (λ z s. ((true, s.0), grey_ending parent z s.0 s.1)) (λ z e. (e.0.1, (ending_grey parent true e.0.0 e.0.1 39 z e.1).2)) cs m h);
+  stop = λ m h. subst (StopsAt (IsEndingText parent true) (49 ∷ 39 ∷ cs)) (two_more m)
+      (same_stop (IsSuffixText parent) (λ z. IsEndingText parent true (49 ∷ 39 ∷ z))
+      (λ z s. ((true, s.0), grey_ending parent z s.0 s.1)) (λ z e. (e.0.1, (ending_grey parent true e.0.0 e.0.1 39 z e.1).2)) cs m h);
 }
   where
     two_more : (m : ℕ) → suc (suc m) ≡ 2 + m
     two_more m = omega arith
 
-pub grey_through : (parent : ℕ) (word : List ℕ) → 2 ≤ length word → get_or word 0 0 ≡ 49 → get_or word 1 0 ≡ 39 → Through (IsEndingText parent true) (IsSuffixText parent) word 2
+pub grey_through : (parent : ℕ) (word : List ℕ) → 2 ≤ length word → get_or word 0 0 ≡ 49 → get_or word 1 0 ≡ 39 →
+    Through (IsEndingText parent true) (IsSuffixText parent) word 2
 grey_through parent [] some one prime = absurd (omega arith)
 grey_through parent (b ∷ []) some one prime = absurd (omega arith)
 grey_through parent (b ∷ c ∷ cs) some one prime = rw (one, prime) (grey_front parent cs)
@@ -97,7 +107,18 @@ module _ (parent : ℕ) (plain : Bool) (word : List ℕ) (h : plain ≡ true →
   whole (c ∷ cs) is grey s e = near c cs cs is grey s e
 
   pub not_grey : (m : ℕ) → IsFaulty (IsSuffixText parent) word m → IsFaulty (IsEndingText parent plain) word m
-  not_grey m f = faulty (IsEndingText parent plain) word m (λ e. f.none (whole word refl e.0.0 e.0.1 e.1)) (same_stop_near (IsSuffixText parent) (IsEndingText parent plain) (λ z s. ((false, s.0), record { is_plain = λ clash. absurd (no_clash clash); suffix = z; is_suffix = s.1; text = refl })) word (λ c cs z is e. near c cs z is e.0.0 e.0.1 e.1) m (stops (IsSuffixText parent) word m f.place_is))
+  not_grey m f = faulty (IsEndingText parent plain) word m (λ e. f.none (whole word refl e.0.0 e.0.1 e.1))
+      (same_stop_near (IsSuffixText parent) (IsEndingText parent plain)
+      (λ z s. (
+        (false, s.0),
+        record {
+          is_plain = λ clash. absurd (no_clash clash);
+          suffix = z;
+          is_suffix = s.1;
+          text =
+              refl;
+        },
+      )) word (λ c cs z is e. near c cs z is e.0.0 e.0.1 e.1) m (stops (IsSuffixText parent) word m f.place_is))
     where
       no_clash : false ≡ true → ⊥
       no_clash e = cc

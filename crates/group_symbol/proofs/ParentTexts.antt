@@ -3,7 +3,9 @@
 --   EndingOf, EndingOf-open, symbol_is, full_text    the endings that a parent's primes allow
 --   body_full, full_body    a body and its ending are a full text
 --   signs_wrong    what the walk over a parent's signs tells of a word
-use Rattle.std.proofs.Common.{◌≡◌, ◌≤◌, ◌<◌, ◌^◌, ◌-◌, ◌+◌, ℕ, zero, suc, Bool, true, false, cond, eqb, List, [], ◌∷◌, ◌++◌, get_or, length, drop, Result, Ok, Err, refl, sym, ap, subst, ◌∙◌, arith, nat_le, IsTrue, inl, inr, eq-eqb}
+use Rattle.std.proofs.Common.{◌≡◌, ◌≤◌, ◌<◌, ◌^◌, ◌-◌, ◌+◌, ℕ, zero, suc, Bool, true, false, cond, eqb, List, [], ◌∷◌}
+use Rattle.std.proofs.Common.{◌++◌, get_or, length, drop, Result, Ok, Err, refl, sym, ap, subst, ◌∙◌, arith, nat_le}
+use Rattle.std.proofs.Common.{IsTrue, inl, inr, eq-eqb}
 use Rattle.std.specs.Prelude.{◌&&◌}
 use Rattle.std.specs.List.{list_all}
 use Rattle.std.proofs.lemmas.Bool.Decides.{eqb_tells}
@@ -107,7 +109,17 @@ clean_ending parent plain false s z h = apart 39 refl (suffix_first parent s 39 
 pub EndingOf-open : (parent : ℕ) → IsOpen (EndingOf parent)
 EndingOf-open parent =
     let found = no_suffix_is_one parent in
-    record { live = λ p. ([], ((false, found.0), record { is_plain = λ e. absurd (clash e); suffix = []; is_suffix = found.1; text = refl })); clean = λ p z e. clean_ending parent (eqb p 0) e.0.0 e.0.1 z e.1 }
+    record {
+      live = λ p. (
+        [],
+        (
+          (false, found.0),
+          record { is_plain = λ e. absurd (clash e); suffix = []; is_suffix = found.1; text = refl },
+        ),
+      );
+      clean =
+          λ p z e. clean_ending parent (eqb p 0) e.0.0 e.0.1 z e.1;
+    }
   where
     clash : false ≡ true → ⊥
     clash e = cc
@@ -124,7 +136,9 @@ suffix_takes parent (suc (suc (suc (suc (suc zero))))) lt t = t
 suffix_takes parent (suc (suc (suc (suc (suc (suc zero)))))) lt t = t
 suffix_takes parent (suc (suc (suc (suc (suc (suc (suc k))))))) lt t = absurd (omega arith)
 
-pub symbol_is : (parent p : ℕ) (grey : Bool) (s : Setting) (z : List ℕ) → 1 ≤ parent → parent ≤ 42 → p < 2 ^ operator_count parent → IsEnding parent (eqb p 0) z grey s → IsGroupSymbol (record { parent = parent; primes = p; grey = grey; setting = s })
+pub symbol_is : (parent p : ℕ) (grey : Bool) (s : Setting) (z : List ℕ) → 1 ≤ parent → parent ≤ 42 →
+    p < 2 ^ operator_count parent → IsEnding parent (eqb p 0) z grey s →
+    IsGroupSymbol (record { parent = parent; primes = p; grey = grey; setting = s })
 symbol_is parent p grey s z first last few h = record {
   first = first;
   last = last;
@@ -133,8 +147,17 @@ symbol_is parent p grey s z first last few h = record {
   setting = let i = h.is_suffix in ap (takes_setting parent) i.setting_is ∙ suffix_takes parent i.place i.listed i.taken;
 }
 
-pub full_text : (parent p : ℕ) (grey : Bool) (s : Setting) (word z : List ℕ) → 1 ≤ parent → parent ≤ 42 → p < 2 ^ operator_count parent → word ≡ with_primes 0 (parent_text parent) p ++ z → IsEnding parent (eqb p 0) z grey s → IsFullText word (record { parent = parent; primes = p; grey = grey; setting = s })
-full_text parent p grey s word z first last few text h = record { symbol = symbol_is parent p grey s z first last few h; suffix = h.suffix; is_suffix = h.is_suffix; text = text ∙ ap (λ (l : List ℕ). with_primes 0 (parent_text parent) p ++ l) h.text }
+pub full_text : (parent p : ℕ) (grey : Bool) (s : Setting) (word z : List ℕ) → 1 ≤ parent → parent ≤ 42 →
+    p < 2 ^ operator_count parent → word ≡ with_primes 0 (parent_text parent) p ++ z →
+    IsEnding parent (eqb p 0) z grey s → IsFullText word (record { parent = parent; primes = p; grey = grey; setting = s })
+full_text parent p grey s word z first last few text h =
+    record {
+      symbol = symbol_is parent p grey s z first last few h;
+      suffix = h.suffix;
+      is_suffix = h.is_suffix;
+      text =
+          text ∙ ap (λ (l : List ℕ). with_primes 0 (parent_text parent) p ++ l) h.text;
+    }
 
 -- ---- a body and its ending are a full text
 
@@ -142,14 +165,22 @@ module _ (parent : ℕ) (first : 1 ≤ parent) (last : parent ≤ 42) (word : Li
   pub body_full : Body 0 (parent_text parent) (EndingOf parent) word → IsFullTextOf parent word
   body_full b =
       let found = body_spelled 0 (parent_text parent) (EndingOf parent) word b in
-      let e = found.4 in
-      (record { parent = parent; primes = found.0; grey = e.0.0; setting = e.0.1 }, refl, full_text parent found.0 e.0.0 e.0.1 word found.2 first last (counted parent found.0 found.1) found.3 e.1)
+      let e = found.4 in (
+        record { parent = parent; primes = found.0; grey = e.0.0; setting = e.0.1 },
+        refl,
+        full_text parent found.0 e.0.0 e.0.1 word found.2 first last (counted parent found.0 found.1) found.3 e.1,
+      )
 
   pub full_body : IsFullTextOf parent word → Body 0 (parent_text parent) (EndingOf parent) word
   full_body (t, is, h) =
       let B : ℕ → Type 0 = λ (k : ℕ). Body 0 (parent_text k) (EndingOf k) word in
       let W : List ℕ → Type 0 = λ (w : List ℕ). Body 0 (parent_text t.parent) (EndingOf t.parent) w in
-      subst B is (subst W (sym h.text) (spelled_body 0 (parent_text t.parent) (EndingOf t.parent) t.primes (grey_text t.grey ++ h.suffix) (in_text t.parent t.primes h.symbol.primes) ((t.grey, t.setting), record { is_plain = λ e. eq-eqb t.primes 0 (h.symbol.plain e); suffix = h.suffix; is_suffix = h.is_suffix; text = refl })))
+      subst B is (subst W (sym h.text)
+      (spelled_body 0 (parent_text t.parent) (EndingOf t.parent) t.primes (grey_text t.grey ++ h.suffix)
+      (in_text t.parent t.primes h.symbol.primes) (
+        (t.grey, t.setting),
+        record { is_plain = λ e. eq-eqb t.primes 0 (h.symbol.plain e); suffix = h.suffix; is_suffix = h.is_suffix; text = refl },
+      )))
 
 -- ---- what the walk over a parent's signs tells of a word
 
@@ -161,7 +192,8 @@ module _ (parent : ℕ) (first : 1 ≤ parent) (last : parent ≤ 42) (word : Li
   signs_wrong n e =
       let O : Result (ℕ × ℕ) ℕ → Type 0 = Outcome (Body 0 (parent_text parent) (EndingOf parent)) (EndingOf parent) word in
       let h = subst O e outcome in
-      same_faulty (Body 0 (parent_text parent) (EndingOf parent)) (IsFullTextOf parent) (body_full parent first last) (full_body parent first last) word n (faulty (Body 0 (parent_text parent) (EndingOf parent)) word n h.0 h.1)
+      same_faulty (Body 0 (parent_text parent) (EndingOf parent)) (IsFullTextOf parent) (body_full parent first last)
+      (full_body parent first last) word n (faulty (Body 0 (parent_text parent) (EndingOf parent)) word n h.0 h.1)
 
   module _ (p n : ℕ) (e : walk 0 (parent_text parent) word ≡ Ok (p, n)) where
     pub signs_through : Through (Body 0 (parent_text parent) (EndingOf parent)) (EndingOf parent p) word n
@@ -174,7 +206,10 @@ module _ (parent : ℕ) (first : 1 ≤ parent) (last : parent ≤ 42) (word : Li
         (counted parent p taken.0, taken.1)
 
     pub ending_wrong : (m : ℕ) → IsFaulty (EndingOf parent p) (drop n word) m → IsFaulty (IsFullTextOf parent) word (n + m)
-    ending_wrong m f = same_faulty (Body 0 (parent_text parent) (EndingOf parent)) (IsFullTextOf parent) (body_full parent first last) (full_body parent first last) word (n + m) (Through-faulty (Body 0 (parent_text parent) (EndingOf parent)) (EndingOf parent p) word n m signs_through f)
+    ending_wrong m f = same_faulty (Body 0 (parent_text parent) (EndingOf parent)) (IsFullTextOf parent)
+        (body_full parent first last) (full_body parent first last) word (n + m)
+        (Through-faulty (Body 0 (parent_text parent) (EndingOf parent)) (EndingOf parent p) word n m signs_through f)
 
-    pub ending_right : (grey : Bool) (s : Setting) → IsEnding parent (eqb p 0) (drop n word) grey s → IsFullText word (record { parent = parent; primes = p; grey = grey; setting = s })
+    pub ending_right : (grey : Bool) (s : Setting) → IsEnding parent (eqb p 0) (drop n word) grey s →
+        IsFullText word (record { parent = parent; primes = p; grey = grey; setting = s })
     ending_right grey s h = full_text parent p grey s word (drop n word) first last signs_taken.0 signs_taken.1 h

@@ -1,4 +1,6 @@
 -- The atom at the front of a word that has one, read from the inside out.
+--   Entered         the opening signs so far, and an atom behind them
+--   Grown           the atom within the first opening signs
 use Rattle.std.proofs.Common.{◌≡◌, ◌≢◌, ℕ, suc, ◌+◌, ◌-◌, ◌<◌, ◌≤◌, List, ◌∷◌, ◌++◌, length, get_or, drop}
 use Rattle.std.proofs.Common.{refl, sym, ap, subst, ◌∙◌, arith, inl, inr}
 use Rattle.std.proofs.lemmas.List.{drop_more}
@@ -55,7 +57,11 @@ module _ (word : List ℕ) (depth : ℕ) (h : Entered word depth) where
       let P : List ℕ → Type 0 = λ (os : List ℕ). Opens os (drop (depth + 1) word) in
       record {
         opens = subst P (stack_more word depth) (open_in _ _ _ is opens_here);
-        signs = λ k below. elim (cases_lt k depth) [ inl before ↦ h.signs k before | inr after ↦ (let Q : ℕ → Type 0 = λ (j : ℕ). IsOpening (get_or word j 0) in let e : depth ≡ k = omega arith in subst Q e is) ];
+        signs = λ k below. elim (cases_lt k depth) [
+          | inl before ↦ h.signs k before
+          | inr after ↦ (let Q : ℕ →
+              Type 0 = λ (j : ℕ). IsOpening (get_or word j 0) in let e : depth ≡ k = omega arith in subst Q e is)
+        ];
       }
 
   pub Entered-core : get_or word depth 0 ≡ 86 → Grown word depth (depth + 1) V
@@ -84,8 +90,12 @@ closing_of o os word at c =
     elim (cases_lt at (length word)) [
       | inr le ↦ absurd (let P : List ℕ → Type 0 = Closes (o ∷ os) in subst P (drop_of_length-le word le) c)
       | inl lt ↦ elim (cases_lt (at + 1) (length word)) [
-        | inr le ↦ absurd (let P : List ℕ → Type 0 = Closes (o ∷ os) in subst P (drop_more word at 0 lt ∙ ap (λ (l : List ℕ). get_or word at 0 ∷ l) (drop_of_length-le word le)) c)
-        | inl lt2 ↦ both lt lt2 (let P : List ℕ → Type 0 = Closes (o ∷ os) in subst P (drop_more word at 0 lt ∙ ap (λ (l : List ℕ). get_or word at 0 ∷ l) (drop_more word (at + 1) 0 lt2)) c)
+        | inr le ↦ absurd (let P : List ℕ →
+            Type 0 = Closes (o ∷ os) in subst P (drop_more word at 0 lt
+            ∙ ap (λ (l : List ℕ). get_or word at 0 ∷ l) (drop_of_length-le word le)) c)
+        | inl lt2 ↦ both lt lt2 (let P : List ℕ →
+            Type 0 = Closes (o ∷ os) in subst P (drop_more word at 0 lt
+            ∙ ap (λ (l : List ℕ). get_or word at 0 ∷ l) (drop_more word (at + 1) 0 lt2)) c)
       ]
     ]
   where
@@ -93,7 +103,14 @@ closing_of o os word at c =
     two n = omega arith
 
     both : at < length word → at + 1 < length word → Closes (o ∷ os) (get_or word at 0 ∷ get_or word (at + 1) 0 ∷ drop (at + 1 + 1) word) → Closing o os word at
-    both lt lt2 c = record { power_in = lt; digit = c.0; sign_in = lt2; sign = c.1; rest = (let P : ℕ → Type 0 = λ (n : ℕ). Closes os (drop n word) in subst P (two at) c.2) }
+    both lt lt2 c = record {
+      power_in = lt;
+      digit = c.0;
+      sign_in = lt2;
+      sign = c.1;
+      rest =
+          (let P : ℕ → Type 0 = λ (n : ℕ). Closes os (drop n word) in subst P (two at) c.2);
+    }
 
 module _ (word : List ℕ) (i at : ℕ) (a : Atom) (h : Grown word (suc i) at a) where
   closing_here : Closing (get_or word i 0) (stack word i) word at
@@ -113,7 +130,9 @@ module _ (word : List ℕ) (i at : ℕ) (a : Atom) (h : Grown word (suc i) at a)
       let lt : at < length word = t.power_in in
       let lt2 : at + 1 < length word = t.sign_in in
       let power : 48 + (d - 48) ≡ d = omega (arith, t.digit.0) in
-      let rest : drop at word ≡ d ∷ get_or word (at + 1) 0 ∷ drop (at + 2) word = drop_more word at 0 lt ∙ ap (λ (l : List ℕ). d ∷ l) (drop_more word (at + 1) 0 lt2) ∙ ap (λ (n : ℕ). d ∷ get_or word (at + 1) 0 ∷ drop n word) (two at) in
+      let rest : drop at word ≡ d ∷ get_or word (at + 1) 0 ∷ drop (at + 2) word = drop_more word at 0 lt
+      ∙ ap (λ (l : List ℕ). d ∷ l) (drop_more word (at + 1) 0 lt2)
+      ∙ ap (λ (n : ℕ). d ∷ get_or word (at + 1) 0 ∷ drop n word) (two at) in
       let more : i < length word = omega (arith, h.fits, h.within) in
       record {
         closes = t.rest;
@@ -121,7 +140,9 @@ module _ (word : List ℕ) (i at : ℕ) (a : Atom) (h : Grown word (suc i) at a)
         fits = omega (arith, h.fits);
         within = omega (arith, t.sign_in);
         is_atom = ((omega (arith, t.digit.0), omega (arith, t.digit.1)), h.is_atom);
-        text = drop_more word i 0 more ∙ bracket_text (get_or word i 0) (drop (i + 1) word) k a d (get_or word (at + 1) 0) (drop (at + 2) word) ko power (t.sign ∙ sym kc) (ap (λ (j : ℕ). drop j word) (one_out i) ∙ h.text ∙ ap (λ (l : List ℕ). atom_text a ++ l) rest);
+        text = drop_more word i 0 more
+            ∙ bracket_text (get_or word i 0) (drop (i + 1) word) k a d (get_or word (at + 1) 0) (drop (at + 2) word) ko
+            power (t.sign ∙ sym kc) (ap (λ (j : ℕ). drop j word) (one_out i) ∙ h.text ∙ ap (λ (l : List ℕ). atom_text a ++ l) rest);
       }
     where
       one_out : (i : ℕ) → i + 1 ≡ suc i

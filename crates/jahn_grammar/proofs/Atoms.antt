@@ -1,5 +1,10 @@
 -- An atom read from the left, with the word's own opening signs as the stack.
-use Rattle.std.proofs.Common.{◌≡◌, ◌≢◌, ℕ, zero, suc, ◌+◌, ◌*◌, ◌-◌, ◌<◌, ◌≤◌, List, [], ◌∷◌, ◌++◌, length, get_or, drop, min, refl, sym, ap, subst, ◌∙◌, arith, inl, inr, append_assoc, lit≤}
+--   Closes, ClosesNow, Opens, stack    what closes the open brackets, an atom within them, the signs of the word
+--   kind_of, open_in, bracket_text, core_in, no_end    one sign, one bracket, the V within, the end
+--   Opened, Closed  the loops over the opening signs and over the brackets behind the V
+--   capped          ranks up to 7
+use Rattle.std.proofs.Common.{◌≡◌, ◌≢◌, ℕ, zero, suc, ◌+◌, ◌*◌, ◌-◌, ◌<◌, ◌≤◌, List, [], ◌∷◌, ◌++◌, length, get_or}
+use Rattle.std.proofs.Common.{drop, min, refl, sym, ap, subst, ◌∙◌, arith, inl, inr, append_assoc, lit≤}
 use Rattle.std.proofs.lemmas.List.{drop_more}
 use Rattle.std.proofs.lemmas.Bool.{cases_lt}
 use Rattle.text_defs.specs.Languages.{IsFaulty}
@@ -51,16 +56,25 @@ open_in o os z h (V, is, r, text, c) = absurd (no_V o h (heads text))
     no_V : (o : ℕ) → IsOpening o → o ≡ 86 → ⊥
     no_V o (inl e) f = omega arith
     no_V o (inr e) f = omega arith
-open_in o os z h (Bracketed k a p, is, r, text, c) =
-    (a, is.1, (48 + p) ∷ closing k ∷ r, tails text ∙ append_assoc (atom_text a) ((48 + p) ∷ closing k ∷ []) r, ((omega (arith, is.0), omega (arith, is.0)), closing_is k (heads text), c))
+open_in o os z h (Bracketed k a p, is, r, text, c) = (
+  a,
+  is.1,
+  (48 + p) ∷ closing k ∷ r,
+  tails text ∙ append_assoc (atom_text a) ((48 + p) ∷ closing k ∷ []) r,
+  ((omega (arith, is.0), omega (arith, is.0)), closing_is k (heads text), c),
+)
   where
     closing_is : (k : BracketKind) → o ≡ opening k → closing k ≡ closer o
     closing_is Symmetric e = rw e refl
     closing_is Antisymmetric e = rw e refl
 
-pub bracket_text : (o : ℕ) (z : List ℕ) (k : BracketKind) (a : Atom) (d q : ℕ) (r : List ℕ) → opening k ≡ o → 48 + (d - 48) ≡ d → q ≡ closing k → z ≡ atom_text a ++ d ∷ q ∷ r → o ∷ z ≡ atom_text (Bracketed k a (d - 48)) ++ r
+pub bracket_text : (o : ℕ) (z : List ℕ) (k : BracketKind) (a : Atom) (d q : ℕ) (r : List ℕ) → opening k ≡ o →
+    48 + (d - 48) ≡ d → q ≡ closing k → z ≡ atom_text a ++ d ∷ q ∷ r → o ∷ z ≡ atom_text (Bracketed k a (d - 48)) ++ r
 bracket_text o z k a d q r ko power kq text =
-    ap (λ (l : List ℕ). o ∷ l) text ∙ ap (λ (x : ℕ). x ∷ (atom_text a ++ d ∷ q ∷ r)) (sym ko) ∙ ap (λ (x : ℕ). opening k ∷ (atom_text a ++ x ∷ q ∷ r)) (sym power) ∙ ap (λ (x : ℕ). opening k ∷ (atom_text a ++ (48 + (d - 48)) ∷ x ∷ r)) kq ∙ ap (λ (l : List ℕ). opening k ∷ l) (sym (append_assoc (atom_text a) ((48 + (d - 48)) ∷ closing k ∷ []) r))
+    ap (λ (l : List ℕ). o ∷ l) text ∙ ap (λ (x : ℕ). x ∷ (atom_text a ++ d ∷ q ∷ r)) (sym ko)
+    ∙ ap (λ (x : ℕ). opening k ∷ (atom_text a ++ x ∷ q ∷ r)) (sym power)
+    ∙ ap (λ (x : ℕ). opening k ∷ (atom_text a ++ (48 + (d - 48)) ∷ x ∷ r)) kq
+    ∙ ap (λ (l : List ℕ). opening k ∷ l) (sym (append_assoc (atom_text a) ((48 + (d - 48)) ∷ closing k ∷ []) r))
 
 open_out : (o : ℕ) (os z : List ℕ) → IsOpening o → Opens (o ∷ os) z → Opens os (o ∷ z)
 open_out o os z h (a, is, [], text, c) = absurd c
@@ -116,7 +130,12 @@ pub record Closed (word : List ℕ) (open_signs at rank : ℕ) : Type 0 where
   pub rank_is : rank ≡ min (atom_rank atom) 7
 
 pub Opened-start : (word : List ℕ) → Opened word 0
-Opened-start word = record { through = Through-start HasAtom (Opens []) word (λ z h. (h.0, h.1, h.2, h.3, tt)) (λ z h. (h.0, h.1, h.2, h.3)); signs = λ k lt. absurd (omega arith) }
+Opened-start word = record {
+  through =
+      Through-start HasAtom (Opens []) word (λ z h. (h.0, h.1, h.2, h.3, tt)) (λ z h. (h.0, h.1, h.2, h.3));
+  signs =
+      λ k lt. absurd (omega arith);
+}
 
 pub stack_more : (word : List ℕ) (i : ℕ) → stack word (suc i) ≡ stack word (i + 1)
 stack_more word i = ap (stack word) (one_out i)
@@ -127,19 +146,31 @@ stack_more word i = ap (stack word) (one_out i)
 module _ (word : List ℕ) (depth : ℕ) (h : Opened word depth) where
   pub Opened-more : depth < length word → IsOpening (get_or word depth 0) → Opened word (depth + 1)
   Opened-more lt is = record {
-    through = let P : List ℕ → Type 0 = λ (os : List ℕ). Through HasAtom (Opens os) word (depth + 1) in subst P (stack_more word depth) (Through-step HasAtom (Opens (stack word depth)) word depth h.through (Opens (get_or word depth 0 ∷ stack word depth)) lt (λ z. open_in _ _ z is) (λ z. open_out _ _ z is));
-    signs = λ k below. elim (cases_lt k depth) [ inl before ↦ h.signs k before | inr after ↦ (let P : ℕ → Type 0 = λ (j : ℕ). IsOpening (get_or word j 0) in let e : depth ≡ k = omega arith in subst P e is) ];
+    through = let P : List ℕ → Type 0 = λ (os : List ℕ). Through HasAtom (Opens os) word (depth + 1) in
+        subst P (stack_more word depth)
+        (Through-step HasAtom (Opens (stack word depth)) word depth h.through
+        (Opens (get_or word depth 0 ∷ stack word depth)) lt (λ z. open_in _ _ z is) (λ z. open_out _ _ z is));
+    signs = λ k below. elim (cases_lt k depth) [
+      | inl before ↦ h.signs k before
+      | inr after ↦ (let P : ℕ →
+          Type 0 = λ (j : ℕ). IsOpening (get_or word j 0) in let e : depth ≡ k = omega arith in subst P e is)
+    ];
   }
 
   pub Opened-wrong : depth < length word → (IsOpening (get_or word depth 0) → ⊥) → get_or word depth 0 ≢ 86 → IsFaulty HasAtom word depth
-  Opened-wrong lt not_open not_core = Through-stuck HasAtom (Opens (stack word depth)) word depth h.through lt (opens_live (stack word depth)) (λ z. no_atom (stack word depth) z (get_or word depth 0) not_open not_core)
+  Opened-wrong lt not_open not_core =
+      Through-stuck HasAtom (Opens (stack word depth)) word depth h.through lt (opens_live (stack word depth))
+      (λ z. no_atom (stack word depth) z (get_or word depth 0) not_open not_core)
 
   pub Opened-short : length word ≤ depth → IsFaulty HasAtom word depth
   Opened-short le = Through-short HasAtom (Opens (stack word depth)) word depth h.through le (opens_live (stack word depth)) (no_end (stack word depth))
 
   pub Closed-start : depth < length word → get_or word depth 0 ≡ 86 → Closed word depth (depth + 1) 1
   Closed-start lt is = record {
-    through = Through-step HasAtom (Opens (stack word depth)) word depth h.through (Closes (stack word depth)) lt (λ z o. core_in (stack word depth) z (let P : ℕ → Type 0 = λ (b : ℕ). Opens (stack word depth) (b ∷ z) in subst P is o)) (λ z c. let P : ℕ → Type 0 = λ (b : ℕ). Opens (stack word depth) (b ∷ z) in subst P (sym is) (core_out (stack word depth) z c));
+    through = Through-step HasAtom (Opens (stack word depth)) word depth h.through (Closes (stack word depth)) lt
+        (λ z o. core_in (stack word depth) z (let P : ℕ → Type 0 = λ (b : ℕ). Opens (stack word depth) (b ∷ z) in
+        subst P is o)) (λ z c. let P : ℕ → Type 0 = λ (b : ℕ). Opens (stack word depth) (b ∷ z) in
+        subst P (sym is) (core_out (stack word depth) z c));
     signs = h.signs;
     fits = omega arith;
     atom = V;
@@ -175,35 +206,48 @@ module _ (word : List ℕ) (i at rank : ℕ) (h : Closed word (suc i) at rank) w
   pub Closed-no_power : (at < length word → IsDigit (get_or word at 0) → ⊥) → IsFaulty HasAtom word at
   Closed-no_power wrong =
       elim (cases_lt at (length word)) [
-        | inl lt ↦ Through-stuck HasAtom (Closes (stack word (suc i))) word at h.through lt (closes_live (stack word (suc i))) (λ z c. wrong lt (power_is (get_or word i 0) (get_or word at 0) (stack word i) z c))
+        | inl lt ↦ Through-stuck HasAtom (Closes (stack word (suc i))) word at h.through lt
+            (closes_live (stack word (suc i))) (λ z c. wrong lt (power_is (get_or word i 0) (get_or word at 0) (stack word i) z c))
         | inr le ↦ Through-short HasAtom (Closes (stack word (suc i))) word at h.through le (closes_live (stack word (suc i))) (λ c. c)
       ]
 
   behind_power : at < length word → IsDigit (get_or word at 0) → Through HasAtom (ClosesNow (get_or word i 0) (stack word i)) word (at + 1)
-  behind_power lt digit = Through-step HasAtom (Closes (stack word (suc i))) word at h.through (ClosesNow (get_or word i 0) (stack word i)) lt (λ z. power_in (get_or word i 0) (get_or word at 0) (stack word i) z) (λ z. power_out (get_or word i 0) (get_or word at 0) (stack word i) z digit)
+  behind_power lt digit = Through-step HasAtom (Closes (stack word (suc i))) word at h.through
+      (ClosesNow (get_or word i 0) (stack word i)) lt
+      (λ z. power_in (get_or word i 0) (get_or word at 0) (stack word i) z)
+      (λ z. power_out (get_or word i 0) (get_or word at 0) (stack word i) z digit)
 
-  pub Closed-no_sign : at < length word → IsDigit (get_or word at 0) → (at + 1 < length word → get_or word (at + 1) 0 ≢ closer (get_or word i 0)) → IsFaulty HasAtom word (at + 1)
+  pub Closed-no_sign : at < length word → IsDigit (get_or word at 0) →
+      (at + 1 < length word → get_or word (at + 1) 0 ≢ closer (get_or word i 0)) → IsFaulty HasAtom word (at + 1)
   Closed-no_sign lt digit wrong =
       elim (cases_lt (at + 1) (length word)) [
-        | inl lt2 ↦ Through-stuck HasAtom (ClosesNow (get_or word i 0) (stack word i)) word (at + 1) (behind_power lt digit) lt2 (now_live (get_or word i 0) (stack word i)) (λ z c. wrong lt2 c.0)
-        | inr le ↦ Through-short HasAtom (ClosesNow (get_or word i 0) (stack word i)) word (at + 1) (behind_power lt digit) le (now_live (get_or word i 0) (stack word i)) (λ c. c)
+        | inl lt2 ↦ Through-stuck HasAtom (ClosesNow (get_or word i 0) (stack word i)) word (at + 1)
+            (behind_power lt digit) lt2 (now_live (get_or word i 0) (stack word i)) (λ z c. wrong lt2 c.0)
+        | inr le ↦ Through-short HasAtom (ClosesNow (get_or word i 0) (stack word i)) word (at + 1)
+            (behind_power lt digit) le (now_live (get_or word i 0) (stack word i)) (λ c. c)
       ]
 
-  pub Closed-more : (new : ℕ) → at < length word → IsDigit (get_or word at 0) → at + 1 < length word → get_or word (at + 1) 0 ≡ closer (get_or word i 0) → new ≡ min ((get_or word at 0 - 48) * rank) 7 → Closed word i (at + 1 + 1) new
+  pub Closed-more : (new : ℕ) → at < length word → IsDigit (get_or word at 0) → at + 1 < length word →
+      get_or word (at + 1) 0 ≡ closer (get_or word i 0) → new ≡ min ((get_or word at 0 - 48) * rank) 7 → Closed word i (at + 1 + 1) new
   Closed-more new lt digit lt2 sign is =
       let k = kind_of (get_or word i 0) (h.signs i (omega arith)) in
       let power : 48 + (get_or word at 0 - 48) ≡ get_or word at 0 = omega (arith, digit.0) in
-      let rest : drop at word ≡ get_or word at 0 ∷ get_or word (at + 1) 0 ∷ drop (at + 1 + 1) word = drop_more word at 0 lt ∙ ap (λ (l : List ℕ). get_or word at 0 ∷ l) (drop_more word (at + 1) 0 lt2) in
+      let rest : drop at word ≡ get_or word at 0 ∷ get_or word (at + 1) 0 ∷ drop (at + 1 + 1) word =
+      drop_more word at 0 lt ∙ ap (λ (l : List ℕ). get_or word at 0 ∷ l) (drop_more word (at + 1) 0 lt2) in
       let low : 2 ≤ get_or word at 0 - 48 = omega (arith, digit.0) in
       let high : get_or word at 0 - 48 ≤ 6 = omega (arith, digit.1) in
       let more : i < length word = omega (arith, h.fits) in
       record {
-        through = Through-step HasAtom (ClosesNow (get_or word i 0) (stack word i)) word (at + 1) (behind_power lt digit) (Closes (stack word i)) lt2 (λ z c. c.1) (λ z c. (sign, c));
+        through = Through-step HasAtom (ClosesNow (get_or word i 0) (stack word i)) word (at + 1)
+            (behind_power lt digit) (Closes (stack word i)) lt2 (λ z c. c.1) (λ z c. (sign, c));
         signs = λ j below. h.signs j (omega arith);
         fits = omega (arith, h.fits);
         atom = Bracketed k.0 h.atom (get_or word at 0 - 48);
         is_atom = ((low, high), h.is_atom);
-        text = drop_more word i 0 more ∙ bracket_text (get_or word i 0) (drop (i + 1) word) k.0 h.atom (get_or word at 0) (get_or word (at + 1) 0) (drop (at + 1 + 1) word) k.1 power (sign ∙ sym k.2) (ap (λ (j : ℕ). drop j word) (one_out i) ∙ h.text ∙ ap (λ (l : List ℕ). atom_text h.atom ++ l) rest);
+        text = drop_more word i 0 more
+            ∙ bracket_text (get_or word i 0) (drop (i + 1) word) k.0 h.atom (get_or word at 0) (get_or word (at + 1) 0)
+            (drop (at + 1 + 1) word) k.1 power (sign ∙ sym k.2) (ap (λ (j : ℕ). drop j word) (one_out i) ∙ h.text
+            ∙ ap (λ (l : List ℕ). atom_text h.atom ++ l) rest);
         rank_is = is ∙ ap (λ (r : ℕ). min ((get_or word at 0 - 48) * r) 7) h.rank_is ∙ capped (get_or word at 0 - 48) (atom_rank h.atom) low high;
       }
     where

@@ -94,7 +94,13 @@ factors_wrong v m f = record {
     began more h =
         elim (first_part (take m v) more (atom_text h.0) h.2 h.3) [
           | inl s ↦ (s.0, (let P : List ℕ → Type 0 = HasFactor in subst P s.1 (alone h.0 h.1)))
-          | inr s ↦ absurd (f.none (h.0, h.1, s.0 ++ drop m v, sym (take-append-drop m v) ∙ ap (λ (l : List ℕ). l ++ drop m v) s.1 ∙ append_assoc (atom_text h.0) s.0 (drop m v)))
+          | inr s ↦ absurd (f.none (
+            h.0,
+            h.1,
+            s.0 ++ drop m v,
+            sym (take-append-drop m v)
+                ∙ ap (λ (l : List ℕ). l ++ drop m v) s.1 ∙ append_assoc (atom_text h.0) s.0 (drop m v),
+          ))
         ]
 
 -- ---- a factor taken
@@ -104,7 +110,8 @@ module _ (v : List ℕ) (a : Atom) (used : ℕ) (is : IsAtom a) (within : used �
   takes_power lt digit = record {
     is_factor = (is, omega (arith, digit.0), omega (arith, digit.1));
     within = omega arith;
-    text = text ∙ ap (λ (l : List ℕ). atom_text a ++ l) (drop_more v used 0 lt ∙ ap (λ (l : List ℕ). l ++ drop (used + 1) v) (sym (digit_text (get_or v used 0) digit)))
+    text = text ∙ ap (λ (l : List ℕ). atom_text a ++ l) (drop_more v used 0 lt
+        ∙ ap (λ (l : List ℕ). l ++ drop (used + 1) v) (sym (digit_text (get_or v used 0) digit)))
         ∙ sym (append_assoc (atom_text a) (power_text (get_or v used 0 - 48)) (drop (used + 1) v));
     ends = λ one. absurd (omega (arith, digit.0, one));
   }

@@ -110,7 +110,8 @@ module _ (u : List ℕ) (ax mg : Bool) (are : AreMarks u ax mg) (c : ℕ) (next 
       shorter : (t : List ℕ) → u ≡ m ++ t → c ∷ z ≡ y
       shorter [] is = append_cancel_left m (c ∷ z) y (ap (λ (l : List ℕ). l ++ (c ∷ z)) (sym (is ∙ append-nil m)) ∙ e)
       shorter (b ∷ t) is =
-          let behind : y ≡ b ∷ (t ++ (c ∷ z)) = append_cancel_left m y (b ∷ (t ++ (c ∷ z))) (sym e ∙ ap (λ (l : List ℕ). l ++ (c ∷ z)) is ∙ append_assoc m (b ∷ t) (c ∷ z)) in
+          let behind : y ≡ b ∷ (t ++ (c ∷ z)) =
+          append_cancel_left m y (b ∷ (t ++ (c ∷ z))) (sym e ∙ ap (λ (l : List ℕ). l ++ (c ∷ z)) is ∙ append_assoc m (b ∷ t) (c ∷ z)) in
           let P : List ℕ → Type 0 = AllMarks in
           absurd (unmarked b (t ++ (c ∷ z)) behind (mark_of m b t (subst P is (marks_all u ax mg are))))
 

@@ -35,7 +35,9 @@ module _ (word : List ℕ) (front : ℕ) (h : MarksAre word front) where
   behind : Through IsJahnText Behind word front
   behind =
       let P : ℕ → Type 0 = λ (k : ℕ). Through IsJahnText Behind word k in
-      subst P (none_more (length h.marks) ∙ h.size) (Through-skip IsJahnText h.marks IsJahnText word 0 (Through-start IsJahnText IsJahnText word (λ z t. t) (λ z t. t)) (drop front word) h.text)
+      subst P (none_more (length h.marks)
+      ∙ h.size) (Through-skip IsJahnText h.marks IsJahnText word 0
+      (Through-start IsJahnText IsJahnText word (λ z t. t) (λ z t. t)) (drop front word) h.text)
     where
       none_more : (n : ℕ) → 0 + n ≡ n
       none_more n = omega arith
@@ -68,16 +70,31 @@ module _ (word : List ℕ) (front : ℕ) (h : MarksAre word front) where
     pub one_body : get_or word front 0 ≡ 49 → front + 1 ≡ length word → SpellsJahn word bare
     one_body is all = record {
       are_factors = tt;
-      body = (h.marks, h.are, inr (h.text ∙ ap (λ (l : List ℕ). h.marks ++ l) (here ∙ ap (λ (b : ℕ). b ∷ drop (front + 1) word) is ∙ ap (λ (l : List ℕ). 49 ∷ l) (drop_of_length-le word (omega arith)))));
+      body = (
+        h.marks,
+        h.are,
+        inr (h.text
+            ∙ ap (λ (l : List ℕ). h.marks ++ l) (here ∙ ap (λ (b : ℕ). b ∷ drop (front + 1) word) is
+            ∙ ap (λ (l : List ℕ). 49 ∷ l) (drop_of_length-le word (omega arith)))),
+      );
     }
 
-    pub one_spelled : get_or word front 0 ≡ 49 → front + 1 ≡ length word → (j : JahnSymbol) × SpellsJahn word j × (0 ≡ factors_rank j.factors) × (factors_rank j.factors ≤ 6)
+    pub one_spelled : get_or word front 0 ≡ 49 → front + 1 ≡ length word →
+        (j : JahnSymbol) × SpellsJahn word j × (0 ≡ factors_rank j.factors) × (factors_rank j.factors ≤ 6)
     one_spelled is all = (bare, one_body is all, refl, lit≤ tt)
 
   pub marks_body : length word ≤ front → front ≢ 0 → SpellsJahn word bare
   marks_body le some = record {
     are_factors = tt;
-    body = (h.marks, h.are, inl (λ none. some (sym h.size ∙ ap length none), h.text ∙ ap (λ (l : List ℕ). h.marks ++ l) (drop_of_length-le word le) ∙ append-nil h.marks));
+    body = (
+      h.marks,
+      h.are,
+      inl (
+        λ none. some (sym h.size ∙ ap length none),
+        h.text
+            ∙ ap (λ (l : List ℕ). h.marks ++ l) (drop_of_length-le word le) ∙ append-nil h.marks,
+      ),
+    );
   }
 
   pub marks_spelled : length word ≤ front → front ≢ 0 → (j : JahnSymbol) × SpellsJahn word j × (0 ≡ factors_rank j.factors) × (factors_rank j.factors ≤ 6)
@@ -92,7 +109,10 @@ nothing_spelled (j, h) = by_body j.factors j.marks h.body
     by_body (f ∷ fs) m h = marked_some h.0 f h.3 h.6
 
 pub empty_wrong : (word : List ℕ) → length word ≤ 0 → IsFaulty IsJahnText word 0
-empty_wrong [] le = faulty IsJahnText [] 0 nothing_spelled (refl, (codes "1", (record { marks = no_marks; factors = [] }, record { are_factors = tt; body = ([], refl, inr refl) })))
+empty_wrong [] le = faulty IsJahnText [] 0 nothing_spelled (
+  refl,
+  (codes "1", (record { marks = no_marks; factors = [] }, record { are_factors = tt; body = ([], refl, inr refl) })),
+)
 empty_wrong (b ∷ bs) le = absurd (omega arith)
 
 -- ---- one factor more
@@ -328,7 +348,8 @@ module _ (word : List ℕ) (at rank n : ℕ) (s : Scanned word at rank) (lt : at
 
   pub Ready-marks : Ready word (at + n) rank
   Ready-marks = record {
-    through = Through-near IsJahnText Marked-text HasFactor word (at + n) marks_skipped (λ z g. factor_behind h.marks own_marks h.are z g) marks_near marks_whole;
+    through = Through-near IsJahnText Marked-text HasFactor word (at + n) marks_skipped
+        (λ z g. factor_behind h.marks own_marks h.are z g) marks_near marks_whole;
     factors = s.factors;
     marks = s.marks;
     own = own_marks;
@@ -398,7 +419,8 @@ Spelled-end word at fs m s le =
     let is : word ≡ s.front = s.text ∙ ap (λ (l : List ℕ). s.front ++ l) (drop_of_length-le word le) ∙ append-nil s.front in
     subst P (sym is) s.spells
 
-pub Scanned-end : (word : List ℕ) (at rank : ℕ) → Scanned word at rank → length word ≤ at → (j : JahnSymbol) × SpellsJahn word j × (rank ≡ min (factors_rank j.factors) 7)
+pub Scanned-end : (word : List ℕ) (at rank : ℕ) → Scanned word at rank → length word ≤ at →
+    (j : JahnSymbol) × SpellsJahn word j × (rank ≡ min (factors_rank j.factors) 7)
 Scanned-end word at rank h le = (
   record { marks = h.marks; factors = h.factors },
   record {

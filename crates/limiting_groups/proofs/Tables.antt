@@ -1,4 +1,6 @@
 -- What classes and the rows of turning words leave are the tensors that a limiting group leaves unchanged.
+--   curie_fits      the table fits
+--   curie_grows, curie_calm    a number grows exactly where the elimination's does
 use Rattle.std.proofs.Common.{◌≡◌, ℕ, ◌^◌, ◌↔◌, List, [], sym, ◌∙◌, subst, inl, inr}
 use Rattle.std.specs.Prelude.{Bool, filter}
 use Rattle.tensor_defs.specs.Elimination.{AreRepresentatives, AreUnknowns, Carrier, GrowsFrom, IsDropped}

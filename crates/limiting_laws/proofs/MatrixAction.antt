@@ -1,4 +1,7 @@
 -- The action of matrices of numbers: index by index, that products act in turn, and that an operation acts as its matrix.
+--   turned_by, turned_by-agree, turned_by-nil, turned_by-cons    the sum of the action, index by index
+--   act_by-times, act_by-agree, act_by-entries    products, lists that agree, matrices that agree
+--   act_by-act      an operation acts as its matrix
 use Rattle.std.proofs.Common.{◌≡◌, ℕ, Bool, true, false, [], ◌∷◌, length, refl, ap, sym, ◌∙◌}
 use Rattle.number_laws.proofs.NumberLaws.{num_mul_assoc, num_mul-add, num_mul-one, num_mul_left_comm, num_one-mul}
 use Rattle.tensor_defs.specs.Number.{Number, add, mul, num_one}

@@ -1,4 +1,7 @@
 -- A component list is unchanged by all rational rotations about z exactly where the words vanish whose counts differ.
+--   turned_axis, turn_words    a rotation multiplies the sum of a word by its factor
+--   kept_vanish, vanish_kept    the two ways
+--   turns_decide_lem    both
 use Rattle.std.proofs.Common.{◌≡◌, ℕ, Bool, true, false, [], ◌∷◌, length, refl, ap, sym, ◌∙◌, inl, inr, lit<}
 use Rattle.std.proofs.lemmas.Bool.{cases_eq}
 use lib.IntN.{negsuc, pos}

@@ -1,5 +1,13 @@
 -- How far a run has come, and what it leaves where it stops.
-use Rattle.std.proofs.Common.{◌≡◌, ⊎_elim, inl, ℕ, ◌+◌, ◌<◌, ◌≤◌, Bool, true, false, ◌||◌, IsTrue, ◌↔◌, List, [], ◌∷◌, ◌++◌, length, take, drop, Some, None, Option, refl, sym, ◌∙◌, ap, subst, arith, append_assoc, length-append}
+--   consumes_none, consumes_more, consumes_kept    one read after another
+--   SoFar, started, read_on, skipped, line_done    the lines that are answered so far, and the part that is held
+--   yes_more, no_more    whether some line is refused
+--   Next, next_of   before the answer of a line
+--   LetGo, let_go, read_end    what is held without a line feed
+--   Break, break_at, at_end    a line feed in what is held, and the end
+use Rattle.std.proofs.Common.{◌≡◌, ⊎_elim, inl, ℕ, ◌+◌, ◌<◌, ◌≤◌, Bool, true, false, ◌||◌, IsTrue, ◌↔◌, List, [], ◌∷◌}
+use Rattle.std.proofs.Common.{◌++◌, length, take, drop, Some, None, Option, refl, sym, ◌∙◌, ap, subst, arith}
+use Rattle.std.proofs.Common.{append_assoc, length-append}
 use Rattle.std.proofs.lemmas.List.{append-nil}
 use Rattle.std.specs.List.{AllByRecursion}
 use Rattle.std.specs.Prelude.{MatchBool}
@@ -110,7 +118,8 @@ no_more format false true ls line so_far this is some = cc
 no_more format false false ls line so_far this is some =
     ⊎_elim (λ before. so_far refl before) (λ now. let bad : false ≡ true = this.1 now in cc) (refused-of_push format 1 ls line some)
 
-module _ {first left before now : Bytes} {format : Format} {total number : ℕ} {skipping refused : Bool} {held : List ℕ} (s : SoFar first left before now format total number skipping refused held) where
+module _ {first left before now : Bytes} {format : Format} {total number : ℕ} {skipping refused : Bool} {held : List ℕ}
+    (s : SoFar first left before now format total number skipping refused held) where
   -- the line of which the held bytes are the end
   pub line_stands : (line : List ℕ) → Stands skipping line (s.part ++ line)
   line_stands line = stands skipping s.part line s.long s.short
@@ -119,11 +128,13 @@ module _ {first left before now : Bytes} {format : Format} {total number : ℕ} 
   number_le = omega (arith, s.number_is, s.total_is, length-ended s.lines, length-append (ended s.lines) (s.part ++ held))
 
   -- one read more
-  pub read_on : (left' : Bytes) (bytes held' : List ℕ) (n : ℕ) → held' ≡ held ++ bytes → length bytes ≡ n → Consumes left left' bytes → SoFar first left' before now format (total + n) number skipping refused held'
+  pub read_on : (left' : Bytes) (bytes held' : List ℕ) (n : ℕ) → held' ≡ held ++ bytes → length bytes ≡ n →
+      Consumes left left' bytes → SoFar first left' before now format (total + n) number skipping refused held'
   read_on left' bytes held' n is size more =
       let front = ended s.lines in
       let all : (front ++ (s.part ++ held)) ++ bytes ≡ front ++ (s.part ++ held') =
-      append_assoc front (s.part ++ held) bytes ∙ ap (λ (l : List ℕ). front ++ l) (append_assoc s.part held bytes ∙ ap (λ (l : List ℕ). s.part ++ l) (sym is)) in
+      append_assoc front (s.part ++ held) bytes
+      ∙ ap (λ (l : List ℕ). front ++ l) (append_assoc s.part held bytes ∙ ap (λ (l : List ℕ). s.part ++ l) (sym is)) in
       record {
         lines = s.lines;
         part = s.part;
@@ -145,7 +156,8 @@ module _ {first left before now : Bytes} {format : Format} {total number : ℕ} 
   -- the held bytes are let go within a line that is too long
   pub skipped : HasNoBreak held → 4000 < length held → SoFar first left before now format total number true refused []
   skipped none size =
-      let all : ended s.lines ++ (s.part ++ held) ≡ ended s.lines ++ ((s.part ++ held) ++ []) = ap (λ (l : List ℕ). ended s.lines ++ l) (sym (append-nil (s.part ++ held))) in
+      let all : ended s.lines ++ (s.part ++ held) ≡ ended s.lines ++ ((s.part ++ held) ++ []) =
+      ap (λ (l : List ℕ). ended s.lines ++ l) (sym (append-nil (s.part ++ held))) in
       record {
         lines = s.lines;
         part = s.part ++ held;
@@ -236,13 +248,17 @@ pub record LetGo (first left before now : Bytes) (format : Format) (total number
   pub none : HasNoBreak held
   pub room : length held < 4001
 
-pub let_go : {first left before now : Bytes} {format : Format} {total number : ℕ} {skipping refused : Bool} {held : List ℕ} → SoFar first left before now format total number skipping refused held → HasNoBreak held
-    → (full : Bool) (held' : List ℕ) → MatchBool full ((length held ≡ 4001) × (held' ≡ [])) ((length held < 4001) × (held' ≡ held)) → LetGo first left before now format total number (skipping || full) refused held'
+pub let_go : {first left before now : Bytes} {format : Format} {total number : ℕ} {skipping refused : Bool}
+    {held : List ℕ} → SoFar first left before now format total number skipping refused held → HasNoBreak held
+    → (full : Bool) (held' : List ℕ) →
+    MatchBool full ((length held ≡ 4001) × (held' ≡ [])) ((length held < 4001) × (held' ≡ held)) →
+    LetGo first left before now format total number (skipping || full) refused held'
 let_go {first} {left} {before} {now} {format} {total} {number} {skipping} {refused} {held} s none true held' is =
     let same : true ≡ (skipping || true) = sym (or_true skipping) in
     let at : SoFar first left before now format total number true refused [] = skipped s none (omega (arith, is.0)) in
     let there : LetGo first left before now format total number true refused [] = record { so_far = at; none = tt; room = omega arith } in
-    subst (λ (b : Bool). LetGo first left before now format total number b refused held') same (subst (λ (l : List ℕ). LetGo first left before now format total number true refused l) (sym is.1) there)
+    subst (λ (b : Bool). LetGo first left before now format total number b refused held') same
+    (subst (λ (l : List ℕ). LetGo first left before now format total number true refused l) (sym is.1) there)
   where
     or_true : (b : Bool) → (b || true) ≡ true
     or_true true = refl
@@ -250,17 +266,21 @@ let_go {first} {left} {before} {now} {format} {total} {number} {skipping} {refus
 let_go {first} {left} {before} {now} {format} {total} {number} {skipping} {refused} {held} s none false held' is =
     let same : skipping ≡ (skipping || false) = sym (or_false skipping) in
     let there : LetGo first left before now format total number skipping refused held = record { so_far = s; none = none; room = is.0 } in
-    subst (λ (b : Bool). LetGo first left before now format total number b refused held') same (subst (λ (l : List ℕ). LetGo first left before now format total number skipping refused l) (sym is.1) there)
+    subst (λ (b : Bool). LetGo first left before now format total number b refused held') same
+    (subst (λ (l : List ℕ). LetGo first left before now format total number skipping refused l) (sym is.1) there)
   where
     or_false : (b : Bool) → (b || false) ≡ b
     or_false true = refl
     or_false false = refl
 
 -- a read of nothing
-pub read_end : {first left before now : Bytes} {format : Format} {total number : ℕ} {skipping refused : Bool} {held : List ℕ} → SoFar first left before now format total number skipping refused held → (left' : Bytes) (held' : List ℕ) → held' ≡ held → Consumes left left' []
+pub read_end : {first left before now : Bytes} {format : Format} {total number : ℕ} {skipping refused : Bool}
+    {held : List ℕ} → SoFar first left before now format total number skipping refused held →
+    (left' : Bytes) (held' : List ℕ) → held' ≡ held → Consumes left left' []
     → SoFar first left' before now format total number skipping refused held'
 read_end {first} {left} {before} {now} {format} {total} {number} {skipping} {refused} {held} s left' held' is none =
-    let more : SoFar first left' before now format (total + 0) number skipping refused held' = read_on s left' [] held' 0 (is ∙ sym (append-nil held)) refl none in
+    let more : SoFar first left' before now format (total + 0) number skipping refused held' =
+    read_on s left' [] held' 0 (is ∙ sym (append-nil held)) refl none in
     let same : total + 0 ≡ total = omega arith in
     subst (λ (n : ℕ). SoFar first left' before now format n number skipping refused held') same more
 
@@ -269,7 +289,8 @@ pub record Break (held line rest : List ℕ) : Type 0 where
   pub cut : held ≡ line ++ 10 ∷ rest
   pub none : HasNoBreak line
 
-pub break_at : (seen held line : List ℕ) (at : ℕ) → seen ≡ held → line ≡ take at held → HasNoBreak (take at seen) → seen ≡ take at seen ++ 10 ∷ drop (at + 1) seen → Break held line (drop (at + 1) held)
+pub break_at : (seen held line : List ℕ) (at : ℕ) → seen ≡ held → line ≡ take at held → HasNoBreak (take at seen) →
+    seen ≡ take at seen ++ 10 ∷ drop (at + 1) seen → Break held line (drop (at + 1) held)
 break_at seen held line at same is none cut =
     let here : held ≡ take at held ++ 10 ∷ drop (at + 1) held = subst (λ (l : List ℕ). l ≡ take at l ++ 10 ∷ drop (at + 1) l) same cut in
     record {
@@ -281,16 +302,22 @@ break_at seen held line at same is none cut =
 pub started_at : (first before : Bytes) (format : Format) (held : List ℕ) → held ≡ [] → SoFar first first before before format 0 1 false false held
 started_at first before format held is = subst (λ (l : List ℕ). SoFar first first before before format 0 1 false false l) (sym is) (started first before format)
 
-pub line_done_at : {first left before now : Bytes} {format : Format} {total number : ℕ} {skipping refused : Bool} {held : List ℕ} (s : SoFar first left before now format total number skipping refused held) (now' : Bytes) (line rest held' answer : List ℕ) (one : Bool) → Break held line rest → held' ≡ rest → Grows now now' answer
-    → ((whole : List ℕ) → Stands skipping line whole → IsAnswer format number whole answer) → ((whole : List ℕ) → Stands skipping line whole → (IsTrue one ↔ IsRefused format number whole))
+pub line_done_at : {first left before now : Bytes} {format : Format} {total number : ℕ} {skipping refused : Bool}
+    {held : List ℕ} (s : SoFar first left before now format total number skipping refused held) (now' : Bytes)
+    (line rest held' answer : List ℕ) (one : Bool) → Break held line rest → held' ≡ rest → Grows now now' answer
+    → ((whole : List ℕ) → Stands skipping line whole → IsAnswer format number whole answer) →
+    ((whole : List ℕ) → Stands skipping line whole → (IsTrue one ↔ IsRefused format number whole))
     → Told format (s.lines ++ (s.part ++ line) ∷ []) → SoFar first left before now' format total (number + 1) false (refused || one) held'
-line_done_at {first} {left} {before} {now} {format} {total} {number} {skipping} {refused} {held} s now' line rest held' answer one at is grows answers refuses told =
+line_done_at {first} {left} {before} {now} {format} {total} {number} {skipping} {refused} {held} s now' line rest held'
+    answer one at is grows answers refuses told =
     let stands_so = line_stands s line in
     let next = line_done s now' line rest answer one at.cut at.none grows (answers (s.part ++ line) stands_so) (refuses (s.part ++ line) stands_so) told in
     subst (λ (l : List ℕ). SoFar first left before now' format total (number + 1) false (refused || one) l) (sym is) next
 
 -- the end of the input
-pub at_end : {first left before now : Bytes} {format : Format} {total number : ℕ} {skipping refused : Bool} {held : List ℕ} → LetGo first left before now format total number skipping refused held → (left' : Bytes) (middle held' : List ℕ) → held' ≡ middle → middle ≡ held → Consumes left left' []
+pub at_end : {first left before now : Bytes} {format : Format} {total number : ℕ} {skipping refused : Bool}
+    {held : List ℕ} → LetGo first left before now format total number skipping refused held →
+    (left' : Bytes) (middle held' : List ℕ) → held' ≡ middle → middle ≡ held → Consumes left left' []
     → LetGo first left' before now format total number skipping refused held'
 at_end {held = held} go left' middle held' is is' none =
     let same : held' ≡ held = is ∙ is' in

@@ -6,21 +6,22 @@
 --   zero_plain, OneTimes, plain_one, hex_one    the identity, and inverses
 use Rattle.std.proofs.Common.{◌≡◌, ℕ, zero, suc, ◌<◌, Bool, true, false, refl, sym}
 use Rattle.std.proofs.Common.{◌∙◌, subst, lit<, inl, inr}
-use Rattle.std.specs.Prelude.{nat_eq, nat_lt}
-use Rattle.std.proofs.lemmas.Bool.{ltb-true, eqb-true}
+use Rattle.std.specs.Prelude.{nat_lt}
+use Rattle.std.proofs.lemmas.Bool.{ltb-true}
 use Rattle.list_laws.proofs.Below.{all_below, below_told, below_told_2}
-use Rattle.list_laws.proofs.Tests.{implied, plain_xor, xor_plain, both}
+use Rattle.list_laws.proofs.Tests.{implied}
 use mathlib.Core.Bool.{xor}
 use Rattle.tensor_defs.specs.Operation.{x1, x2, x3, Entry, Row, Operation, IsProduct, identity, one}
 use Rattle.tensor_defs.specs.Operation.{nought, minus_one}
 use Rattle.tensor_defs.specs.Frames.{OneUnit, IsPlain, IsHexagonal, SameMatrix}
+use Rattle.tensor_laws.proofs.Groups.{one_times, times_one}
 use Rattle.op_matrix.specs.Table.{operation_at, nth_operation, place, matrix_place, same_row, same_matrix}
 use Rattle.op_matrix.specs.View.{hex_frame, plain_frame}
 use Rattle.op_matrix.specs.declared.entry.Frame.{Frame}
 use Rattle.op_matrix.proofs.Frames.{also, three_told, same_entry_true, plain_test, plain_of}
-use Rattle.op_matrix.proofs.Products.{product_code, frame_code, common, product_at, product_code_below}
+use Rattle.op_matrix.proofs.Products.{product_code, frame_code, product_at, product_code_below}
 use Rattle.op_matrix.proofs.Facts.{nth_at, place_below, the_place}
-use Rattle.op_matrix.proofs.Hexagonal.{Listed, listed_unique, turns_listed, diagonal_listed, implies, zero_hex, identity_at}
+use Rattle.op_matrix.proofs.Hexagonal.{Listed, listed_unique, turns_listed, diagonal_listed, implies}
 use Rattle.op_matrix.proofs.Hexagonal.{hex_common, plain_common, hex_kept_at, plain_kept_at}
 use Rattle.op_matrix.proofs.Hexagonal.{plain_at_told, hex_told}
 
@@ -169,12 +170,6 @@ unfolding operation_at frame_code
 hex_identity = hex_told 0 false (lit< tt) refl
 
 -- ---- the identity, and inverses
-abbrev one_right : ℕ → Bool
-one_right n = also (nat_eq (product_code 0 n) n) (nat_eq (product_code n 0) n)
-
-one_all : all_below 64 one_right ≡ true
-unfolding product_code
-one_all = refl
 
 pub zero_plain : plain_frame (frame_code 0) ≡ true
 unfolding frame_code
@@ -183,26 +178,8 @@ zero_plain = refl
 abbrev pub OneTimes : Operation → Type 0
 OneTimes g = IsProduct identity g g × IsProduct g identity g
 
-one_at : (n : ℕ) (p : Bool) → n < 64 → common (frame_code 0) (frame_code n) ≡ true →
-    common (frame_code n) (frame_code 0) ≡ true → OneTimes (operation_at n p)
-unfolding xor
-one_at n p h a b =
-    let t : (_ ≡ true) × (_ ≡ true) = both (nat_eq (product_code 0 n) n) (nat_eq (product_code n 0) n)
-    (below_told 64 one_right one_all n h) in (
-      subst (λ x. IsProduct x (operation_at n p) (operation_at n p)) (sym identity_at)
-          (subst (λ x. IsProduct (operation_at 0 false) (operation_at n p) (operation_at x p))
-          (eqb-true (product_code 0 n) n t.0) (product_at 0 n false p p (lit< tt) h a (plain_xor p))),
-      subst (λ x. IsProduct (operation_at n p) x (operation_at n p)) (sym identity_at)
-          (subst (λ x. IsProduct (operation_at n p) (operation_at 0 false) (operation_at x p))
-          (eqb-true (product_code n 0) n t.1) (product_at n 0 p false p h (lit< tt) b (xor_plain p))),
-    )
-
 pub plain_one : (g : Operation) → IsPlain g → OneTimes g
-plain_one g h = let a = plain_listed g h in subst OneTimes (sym a.3)
-    (one_at a.0 g.primed a.1 (plain_common (frame_code 0) (frame_code a.0) zero_plain a.2)
-    (plain_common (frame_code a.0) (frame_code 0) a.2 zero_plain))
+plain_one g h = (one_times g, times_one g)
 
 pub hex_one : (g : Operation) → IsHexagonal g → OneTimes g
-hex_one g h = let a = hex_listed g h in subst OneTimes (sym a.3)
-    (one_at a.0 g.primed a.1 (hex_common (frame_code 0) (frame_code a.0) zero_hex a.2)
-    (hex_common (frame_code a.0) (frame_code 0) a.2 zero_hex))
+hex_one g h = (one_times g, times_one g)

@@ -1,7 +1,8 @@
 -- The keywords of lines.
 --   Tried           none of the first keywords begins the line, and the furthest place that they reach
 --   behind_keyword  behind its keyword, the line goes on as the words that the keyword wants
-use Rattle.std.proofs.Common.{◌≡◌, ◌≢◌, ℕ, ◌+◌, ◌<◌, ◌≤◌, cond, eqb, List, ◌∷◌, ◌++◌, length, get_or, take, drop, max, refl, sym, ap, subst, ◌∙◌, arith, inl, inr, append_assoc}
+use Rattle.std.proofs.Common.{◌≡◌, ◌≢◌, ℕ, ◌+◌, ◌<◌, ◌≤◌, cond, eqb, List, ◌∷◌, ◌++◌, length, get_or, take, drop, max}
+use Rattle.std.proofs.Common.{refl, sym, ap, subst, ◌∙◌, arith, inl, inr, append_assoc}
 use Rattle.std.specs.Prelude.{codes}
 use Rattle.std.proofs.lemmas.Bool.{cases_lt}
 use Rattle.std.proofs.lemmas.List.{take-append-drop, length-append, length-take, get_or-take, get_or_append_left}
@@ -61,7 +62,8 @@ module _ (format : Format) where
           (place_of r.0, l.0, let P : Keyword → Type 0 = λ (k : Keyword). IsRequestOf format k z in subst P (sym l.1) r.1)
 
   -- the line parts from the keyword behind its first n bytes
-  module _ (k : Keyword) (line : List ℕ) (n : ℕ) (part : n < length (keyword_text k)) (in_line : n ≤ length line) (same : take n (keyword_text k) ≡ take n line) (differ : n < length line → get_or (keyword_text k) n 0 ≢ get_or line n 0) where
+  module _ (k : Keyword) (line : List ℕ) (n : ℕ) (part : n < length (keyword_text k)) (in_line : n ≤ length line)
+      (same : take n (keyword_text k) ≡ take n line) (differ : n < length line → get_or (keyword_text k) n 0 ≢ get_or line n 0) where
     inside : (r : List ℕ) → get_or (keyword_text k ++ r) n 0 ≡ get_or (keyword_text k) n 0
     inside r = get_or_append_left (keyword_text k) r 0 n part
 
@@ -98,7 +100,8 @@ module _ (format : Format) where
       elim (cases_lt place n) [
         | inl less ↦
             let is : max place n ≡ n = omega arith in
-            rw is (Furthest-go (IsWorded format) (λ k z. IsRequestOf format (keyword_at k) z) count line place h n (λ z r. (keyword_at count, r)) wrong (omega arith))
+            rw is (Furthest-go (IsWorded format) (λ k z. IsRequestOf format (keyword_at k) z) count line place h n
+            (λ z r. (keyword_at count, r)) wrong (omega arith))
         | inr more ↦
             let is : max place n ≡ place = omega arith in
             rw is (Furthest-stay (IsWorded format) (λ k z. IsRequestOf format (keyword_at k) z) count line place h n wrong more)
@@ -153,7 +156,8 @@ module _ (format : Format) where
       from_one : (l : Keyword) × IsRequestOf format l (keyword_text k ++ z) → IsWords GroupSlot (slots_of format k) z
       from_one s =
           let same = same_keyword k s.0 z s.1.rest s.1.text in
-          let words : IsWords GroupSlot (slots_of format k) s.1.rest = let P : Keyword → Type 0 = λ (l : Keyword). IsWords GroupSlot (slots_of format l) s.1.rest in subst P same.0 s.1.words in
+          let words : IsWords GroupSlot (slots_of format k) s.1.rest = let P : Keyword →
+          Type 0 = λ (l : Keyword). IsWords GroupSlot (slots_of format l) s.1.rest in subst P same.0 s.1.words in
           subst (IsWords GroupSlot (slots_of format k)) same.1 words
 
   out_of : (k : Keyword) (z : List ℕ) → IsWords GroupSlot (slots_of format k) z → (IsWorded format) (keyword_text k ++ z)
@@ -163,18 +167,21 @@ module _ (format : Format) where
   through k line start h =
       subst (Through (IsWorded format) (IsWords GroupSlot (slots_of format k)) line) place
       (Through-near (IsWorded format) (λ z. (IsWorded format) (keyword_text k ++ z)) (IsWords GroupSlot (slots_of format k)) line (0 + length (keyword_text k))
-      (Through-skip (IsWorded format) (keyword_text k) (IsWorded format) line 0 (Through-start (IsWorded format) (IsWorded format) line (λ z r. r) (λ z r. r)) (drop start line) h.text)
+      (Through-skip (IsWorded format) (keyword_text k) (IsWorded format) line 0
+      (Through-start (IsWorded format) (IsWorded format) line (λ z r. r) (λ z r. r)) (drop start line) h.text)
       (out_of k) (λ c cs z e r. into k (c ∷ z) r) (into k (drop (0 + length (keyword_text k)) line)))
     where
       place : 0 + length (keyword_text k) ≡ start
       place = let e = h.start_is in omega arith
 
-  pub request_wrong : (k : Keyword) (line : List ℕ) (start place : ℕ) → BeginsWith k line start → IsWrongFrom line start GroupSlot (slots_of format k) place → IsFaulty (IsWorded format) line place
+  pub request_wrong : (k : Keyword) (line : List ℕ) (start place : ℕ) → BeginsWith k line start →
+      IsWrongFrom line start GroupSlot (slots_of format k) place → IsFaulty (IsWorded format) line place
   request_wrong k line start place h f =
       subst (IsFaulty (IsWorded format) line) (sym f.place_is)
       (Through-faulty (IsWorded format) (IsWords GroupSlot (slots_of format k)) line start f.at (through k line start h) f.faulty)
 
-  pub tried_text : (line text : List ℕ) (place count n : ℕ) → Tried line count place → text ≡ keyword_text (keyword_at count) → n ≤ length text → n ≢ length text → n ≤ length line →
+  pub tried_text : (line text : List ℕ) (place count n : ℕ) → Tried line count place →
+      text ≡ keyword_text (keyword_at count) → n ≤ length text → n ≢ length text → n ≤ length line →
       take n text ≡ take n line → (n < length text → n < length line → get_or text n 0 ≢ get_or line n 0) → Tried line (count + 1) (max place n)
   tried_text line text place count n h is in_text part in_line same differ =
       tried_next line place count n h (let P : List ℕ → Type 0 = λ (t : List ℕ). n < length t in subst P is less) in_line
@@ -185,6 +192,7 @@ module _ (format : Format) where
       less = omega arith
 
   -- the same where the keyword is known by a test
-  pub body_wrong : (k l : Keyword) → k ≡ l → (line : List ℕ) (start place : ℕ) → BeginsWith k line start → IsWrongFrom line start GroupSlot (slots_of format l) place → IsFaulty (IsWorded format) line place
+  pub body_wrong : (k l : Keyword) → k ≡ l → (line : List ℕ) (start place : ℕ) → BeginsWith k line start →
+      IsWrongFrom line start GroupSlot (slots_of format l) place → IsFaulty (IsWorded format) line place
   body_wrong k l is line start place h f =
       request_wrong l line start place (let P : Keyword → Type 0 = λ (m : Keyword). BeginsWith m line start in subst P is h) f

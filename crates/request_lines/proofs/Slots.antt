@@ -4,7 +4,8 @@
 --   word_short      a right word, with nothing behind it where more is wanted
 --   word_long       a right word, with more behind it where nothing is wanted
 --   later_wrong     what goes wrong behind a right word and its space
-use Rattle.std.proofs.Common.{◌≡◌, ◌≢◌, ℕ, zero, suc, ◌+◌, ◌<◌, true, false, List, [], ◌∷◌, ◌++◌, length, drop, get_or, refl, sym, ap, subst, ◌∙◌, inl, inr, arith, lit<}
+use Rattle.std.proofs.Common.{◌≡◌, ◌≢◌, ℕ, zero, suc, ◌+◌, ◌<◌, true, false, List, [], ◌∷◌, ◌++◌, length, drop, get_or}
+use Rattle.std.proofs.Common.{refl, sym, ap, subst, ◌∙◌, inl, inr, arith, lit<}
 use Rattle.std.specs.Prelude.{codes}
 use Rattle.std.proofs.lemmas.List.{drop_at, drop-drop, get_or-drop, length-append, append-nil}
 use Rattle.tensor_defs.specs.declared.Weights.{Weights}

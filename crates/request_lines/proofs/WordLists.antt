@@ -95,7 +95,8 @@ Through-then Text A B w n k t s =
       within = omega (arith, t.within, s.within, length-drop n w);
       some = λ b. t.some (s.some (subst B (sym is) b));
       only = λ x. subst B is (s.only (t.only x));
-      stop = λ m h. let P : List ℕ → Type 0 = λ (l : List ℕ). StopsAt B l m in let Q : ℕ → Type 0 = λ (i : ℕ). StopsAt Text w i in subst Q (along m) (t.stop (k + m) (s.stop m (subst P (sym is) h)));
+      stop = λ m h. let P : List ℕ → Type 0 = λ (l : List ℕ). StopsAt B l m in let Q : ℕ →
+          Type 0 = λ (i : ℕ). StopsAt Text w i in subst Q (along m) (t.stop (k + m) (s.stop m (subst P (sym is) h)));
     }
   where
     along : (m : ℕ) → n + (k + m) ≡ n + k + m
@@ -147,7 +148,8 @@ module _ (all : ℕ) (text : List ℕ) (start left : ℕ) (h : Gone all text sta
       at_comma : Through (IsListOf all) (Behind left) text end
       at_comma =
           let P : ℕ → Type 0 = λ (k : ℕ). Through (IsListOf all) (Behind left) text k in
-          let place : start + length (word_at text start end) ≡ end = ap (λ (k : ℕ). start + k) (word_size 44 text start end ends) ∙ sym (size_reaches 44 text start end ends) in
+          let place : start + length (word_at text start end) ≡ end =
+          ap (λ (k : ℕ). start + k) (word_size 44 text start end ends) ∙ sym (size_reaches 44 text start end ends) in
           subst P place
           (Through-then (IsListOf all) (IsListOf (suc left)) (Behind left) text start (length (word_at text start end)) h.through
           (word_through 44 IsJahnText (Behind left) high (commas left) (word_at text start end) (drop end text) (drop start text)
@@ -271,7 +273,8 @@ module _ (line : List ℕ) (list : Span) (start end n : ℕ) (h : Counted line l
     fits = omega arith;
     ends = ends;
     counted = omega arith;
-    words = λ js t. let P : List JahnAt → Type 0 = λ (l : List JahnAt). JahnWords (take (end + 1) line) line l in subst P (others_are js t ∙ ap (λ (k : ℕ). drop k js) less) ((at js t).more lt);
+    words = λ js t. let P : List JahnAt → Type 0 = λ (l : List JahnAt). JahnWords (take (end + 1) line) line l in
+        subst P (others_are js t ∙ ap (λ (k : ℕ). drop k js) less) ((at js t).more lt);
   }
     where
       less : n ≡ n + 1 - 1

@@ -68,7 +68,9 @@ module _ (separator : ℕ) where
   some_text : (A E : List ℕ → Type 0) → ((z : List ℕ) × A z) → ((z : List ℕ) × E z) → (z : List ℕ) × Ended A E z
   some_text A E a e = (a.0 ++ e.0, record { word = a.0; ending = e.0; is_word = a.1; is_ending = e.1; text = refl })
 
-  pub word_stops : (A E : List ℕ → Type 0) → ((z : List ℕ) → A z → Above separator z) → ((z : List ℕ) → E z → Spaces z) → ((z : List ℕ) × E z) → (w : List ℕ) → Clean w → (t : List ℕ) → Spaces t → ¬ A w → (m : ℕ) → StopsAt A w m → StopsAt (Ended A E) (w ++ t) m
+  pub word_stops : (A E : List ℕ → Type 0) → ((z : List ℕ) → A z → Above separator z) →
+      ((z : List ℕ) → E z → Spaces z) → ((z : List ℕ) × E z) → (w : List ℕ) → Clean w → (t : List ℕ) → Spaces t →
+      ¬ A w → (m : ℕ) → StopsAt A w m → StopsAt (Ended A E) (w ++ t) m
   word_stops A E visible spaces live [] cl [] st none m h = (h.0, some_text A E h.1 live)
   word_stops A E visible spaces live [] cl (c ∷ cs) st none zero h =
       (some_text A E h.1 live, λ z e. none (at_space A E visible c st z e).0)
@@ -85,7 +87,9 @@ module _ (separator : ℕ) where
   one_added : (k m : ℕ) → suc (k + m) ≡ suc k + m
   one_added k m = omega arith
 
-  pub word_passes : (A E : List ℕ → Type 0) → ((z : List ℕ) → A z → Above separator z) → ((z : List ℕ) → E z → Spaces z) → (w : List ℕ) → Clean w → (t : List ℕ) → Spaces t → A w → (m : ℕ) → StopsAt E t m → StopsAt (Ended A E) (w ++ t) (length w + m)
+  pub word_passes : (A E : List ℕ → Type 0) → ((z : List ℕ) → A z → Above separator z) →
+      ((z : List ℕ) → E z → Spaces z) → (w : List ℕ) → Clean w → (t : List ℕ) → Spaces t → A w → (m : ℕ) →
+      StopsAt E t m → StopsAt (Ended A E) (w ++ t) (length w + m)
   word_passes A E visible spaces [] cl t st a m h =
       subst (StopsAt (Ended A E) t) (none_added m) (same_stop_near E (Ended A E) in_text t near m h)
     where
@@ -99,21 +103,25 @@ module _ (separator : ℕ) where
       (same_stop (Ended (After A x) E) (λ z. Ended A E (x ∷ z)) (back A E x) (step A E spaces x cl.0) (xs ++ t) (length xs + m)
       (word_passes (After A x) E (λ z b. (visible (x ∷ z) b).1) spaces xs cl.1 t st a m h))
 
-  module _ (A E : List ℕ → Type 0) (visible : (z : List ℕ) → A z → Above separator z) (spaces : (z : List ℕ) → E z → Spaces z) (w t z : List ℕ) (cl : Clean w) (st : Spaces t) (is : z ≡ w ++ t) where
+  module _ (A E : List ℕ → Type 0) (visible : (z : List ℕ) → A z → Above separator z) (spaces : (z : List ℕ) → E z →
+      Spaces z) (w t z : List ℕ) (cl : Clean w) (st : Spaces t) (is : z ≡ w ++ t) where
     cut : Ended A E z → (A w) × (E t)
     cut e =
         let same = split e.word w e.ending t (clean e.word (visible e.word e.is_word)) cl (spaces e.ending e.is_ending) st (sym e.text ∙ is) in
         (subst A same.0 e.is_word, subst E same.1 e.is_ending)
 
     pub word_faulty : ((u : List ℕ) × E u) → (m : ℕ) → IsFaulty A w m → IsFaulty (Ended A E) z m
-    word_faulty live m f = faulty (Ended A E) z m (λ e. f.none (cut e).0) (let P : List ℕ → Type 0 = λ (l : List ℕ). StopsAt (Ended A E) l m in subst P (sym is) (word_stops A E visible spaces live w cl t st f.none m (stops A w m f.place_is)))
+    word_faulty live m f = faulty (Ended A E) z m (λ e. f.none (cut e).0) (let P : List ℕ →
+        Type 0 = λ (l : List ℕ). StopsAt (Ended A E) l m in
+        subst P (sym is) (word_stops A E visible spaces live w cl t st f.none m (stops A w m f.place_is)))
 
     pub word_through : A w → Through (Ended A E) E z (length w)
     word_through a = record {
       within = omega (arith, ap length is, length-append w t);
       some = λ e. record { word = w; ending = t; is_word = a; is_ending = subst E rest e; text = is };
       only = λ e. subst E (sym rest) (cut e).1;
-      stop = λ m h. let P : List ℕ → Type 0 = λ (l : List ℕ). StopsAt (Ended A E) l (length w + m) in let Q : List ℕ → Type 0 = λ (l : List ℕ). StopsAt E l m in subst P (sym is) (word_passes A E visible spaces w cl t st a m (subst Q rest h));
+      stop = λ m h. let P : List ℕ → Type 0 = λ (l : List ℕ). StopsAt (Ended A E) l (length w + m) in let Q : List ℕ →
+          Type 0 = λ (l : List ℕ). StopsAt E l m in subst P (sym is) (word_passes A E visible spaces w cl t st a m (subst Q rest h));
     }
       where
         rest : drop (length w) z ≡ t

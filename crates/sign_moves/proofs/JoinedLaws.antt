@@ -1,4 +1,9 @@
 -- The moves of two lists together lead back, and a list is kept by both exactly where each keeps it.
+--   at_first, at_second    a move of the first list, and of the second
+--   joined_reversible    they lead back
+--   kept_by_first, kept_by_second, kept_by_both    a list is kept by both
+--   first_joined, kept_again    a list without moves; another list with the same values
+--   joined_tell     the law
 use Rattle.std.proofs.Common.{◌≡◌, ℕ, Bool, List, ◌+◌, ◌-◌, ◌<◌, ◌≤◌, cond, arith, ap, sym, ◌∙◌, subst, inl, inr}
 use Rattle.std.proofs.lemmas.Bool.{cases_lt, lt-ltb, le-ltb}
 use Rattle.sign_moves.specs.declared.classes.Entry.{Entry}

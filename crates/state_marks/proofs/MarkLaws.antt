@@ -23,10 +23,10 @@ use Rattle.tensor_defs.specs.Table.{Fits, Table}
 use Rattle.tensor_defs.specs.Tensor.{Marks, component_number}
 use Rattle.tensor_defs.specs.declared.Sign.{Sign}
 use Rattle.tensor_defs.specs.declared.Sign.TheVariants.{Plus, Minus}
+use Rattle.tensor_laws.proofs.Groups as laws
 use Rattle.tensor_laws.proofs.IndexOrder.{index_order}
 use Rattle.tensor_laws.proofs.Unique.{same_free, same_terms, fraction_one}
 use Rattle.answer_laws.proofs.DomainStates.{one_state_list}
-use Rattle.answer_laws.proofs.Groups as laws
 use Rattle.magnetic_groups.specs.Sets.{In, IsGroup}
 use Rattle.tensor_action.proofs.DeterminantLaws.{one_down}
 use Rattle.tensor_rank.specs.IndexLaws.{component_below_at}

@@ -1,4 +1,7 @@
 -- The rows of all components in a state, one after the other, and those of all states.
+--   rows-start, rows-more, rows-end    the rows of the components up to n
+--   grows_same      growth depends on the terms at indices of the rank
+--   told-start, told-more, later-calm    the states from the second on
 use Rattle.std.proofs.Common.{◌≡◌, ℕ, zero, suc, ◌+◌, ◌<◌, ◌≤◌, ◌^◌, inl, inr, Bool, false, List, [], ◌∷◌, ◌++◌, length, take, drop, get_or, ap, sym, ◌∙◌, subst, arith}
 use Rattle.std.specs.Prelude.{Contains, slice_get, Some}
 use Rattle.std.proofs.lemmas.Bool.{cases_lt}

@@ -14,3 +14,4 @@ pub mod BlockOrder
 pub mod Indices
 pub mod Sets
 pub mod States
+pub mod Groups

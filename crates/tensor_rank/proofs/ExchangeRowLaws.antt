@@ -1,6 +1,7 @@
 -- The digits of a component make up where an exchange carries it.
 --   digit_front, digit_last    the digits of a component with one more
---   exchange_row, front_small_parts, front_row    the steps of an exchange
+--   exchange_row    the row of an exchange from those of its places
+--   front_small_parts, front_row    the same at the first places
 use Rattle.std.proofs.Common.{◌≡◌, ◌≢◌, ℕ, ◌+◌, ◌-◌, ◌*◌, ◌/◌, ◌%◌, ◌^◌, ◌<◌, ◌≤◌, cond, List, [], ◌∷◌, zero, suc, length, get_or, arith, ap, sym, ◌∙◌, refl, subst, inl, inr}
 use Rattle.std.specs.Prelude.{nat_lt}
 use Rattle.std.proofs.lemmas.Bool.{cases_lt, lt-ltb, le-ltb}

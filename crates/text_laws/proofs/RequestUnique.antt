@@ -431,11 +431,13 @@ words_tell (Pairs g f) (Pairs k l) ws a b =
     λ i. Pairs (same.0 i) (same.1 i)
 words_tell (Differ g f j) (Differ k l m) ws a b =
     let e = sym a.3 ∙ b.3 in
-    let same = same_three (codes "differ ") g k f l j m a.0 a.1 a.2 b.0 b.1 b.2 (second_of _ _ _ _ _ _ e) (third_of _ _ _ _ _ _ _ _ e) (fourth_of _ _ _ _ _ _ _ _ _ _ e) a.4 b.4 in
+    let same = same_three (codes "differ ") g k f l j m a.0 a.1 a.2 b.0 b.1 b.2 (second_of _ _ _ _ _ _ e)
+    (third_of _ _ _ _ _ _ _ _ e) (fourth_of _ _ _ _ _ _ _ _ _ _ e) a.4 b.4 in
     λ i. Differ (same.0 i) (same.1 i) (same.2 i)
 words_tell (Same g f j) (Same k l m) ws a b =
     let e = sym a.3 ∙ b.3 in
-    let same = same_three (codes "same ") g k f l (j ∷ []) (m ∷ []) a.0 a.1 a.2 b.0 b.1 b.2 (second_of _ _ _ _ _ _ e) (third_of _ _ _ _ _ _ _ _ e) (fourth_of _ _ _ _ _ _ _ _ _ _ e) a.4 b.4 in
+    let same = same_three (codes "same ") g k f l (j ∷ []) (m ∷ []) a.0 a.1 a.2 b.0 b.1 b.2 (second_of _ _ _ _ _ _ e)
+    (third_of _ _ _ _ _ _ _ _ e) (fourth_of _ _ _ _ _ _ _ _ _ _ e) a.4 b.4 in
     let jahns = only_one j m same.2 in
     λ i. Same (same.0 i) (same.1 i) (jahns i)
 words_tell q r ws a b = absurd (cc (same_kind q r ws a b))

@@ -12,7 +12,7 @@ use Rattle.text_defs.specs.declared.Format.{Format}
 use Rattle.text_defs.specs.declared.Format.TheVariants.{One, Two}
 use Rattle.text_defs.specs.Requests.{Request, SpellsRequest, longest_line}
 use Rattle.text_laws.proofs.RequestUnique.{one_request_spelled}
-use Rattle.worked_rows.proofs.FirstRowProof.{first_row}
+use Rattle.worked_rows.proofs.FirstRowProof.{first_row, below_first}
 use Rattle.worked_rows.proofs.RowProofs.{false_true}
 use Rattle.worked_rows.proofs.VectorRow.{two_only, two_y_in}
 use Rattle.worked_rows.specs.Rows.{two_alone, two_y, first_line, first_request, FirstLineAnswered, FirstLineNotRefused}
@@ -102,18 +102,15 @@ not_by format TooLarge column h = of_request format TooLarge column h.1 h.2 h.3
 pub first_line_not_refused : FirstLineNotRefused
 first_line_not_refused format number h = not_by format h.1 h.2 h.3
 
-first_differs : (n : ℕ) → n ≤ 101 → 102 ≡ n → ⊥
-first_differs n h e = omega arith
-
 fifth_differs : (n : ℕ) → 33 ≤ n → 32 ≡ n → ⊥
 fifth_differs n h e = omega arith
 
 not_passed : (format : Format) (number : ℕ) → IsPassed format number first_line → ⊥
-not_passed format number (inl e) = first_differs 0 (lit≤ tt) (ap (λ bs. get_or bs 0 0) e)
+not_passed format number (inl e) = below_first 0 (lit≤ tt) (ap (λ bs. get_or bs 0 0) e)
 not_passed One number (inr (inl h)) = h
 not_passed Two number (inr (inl h)) = fifth_differs 97 (lit≤ tt) (ap (λ bs. get_or bs 4 0) h.1)
 not_passed One number (inr (inr h)) = h.1
-not_passed Two number (inr (inr h)) = first_differs 35 (lit≤ tt) (ap (λ bs. get_or bs 0 0) h.1.1)
+not_passed Two number (inr (inr h)) = below_first 35 (lit≤ tt) (ap (λ bs. get_or bs 0 0) h.1.1)
 
 pub first_line_answered : FirstLineAnswered
 first_line_answered format number =

@@ -1,11 +1,13 @@
-use Rattle.std.proofs.Common.{◌≡◌, ◌∙◌, ap, arith, length}
-use Rattle.curie_runs.specs.CurieTexts.{curie_at, curie_text}
-use Rattle.curie_runs.proofs.NameLaws.{all_tried, nothing_tried, tried_next}
+use Rattle.std.proofs.Common.{◌≡◌, ◌∙◌, ap, arith, length, refl}
+use Rattle.fault_places.proofs.Furthest.{Furthest-start}
+use Rattle.limiting_defs.specs.declared.Curie.TheVariants.{Inf}
+use Rattle.curie_runs.specs.CurieTexts.{curie_at, curie_text, IsCurieText}
+use Rattle.curie_runs.proofs.NameLaws.{all_tried, tried_next}
 use Rattle.curie_runs.proofs.names.read_curie.Goals as goal
 use Rattle.curie_runs.proofs.names.read_curie.Goals.{else-same-text-via-then-same-text+else-same-word, else-same-text-via-else-same-text}
 
 pub loop-place-init : goal.loop-place-init
-loop-place-init c = nothing_tried c.args.word.now
+loop-place-init c = Furthest-start IsCurieText (λ k z. z ≡ curie_text (curie_at k)) c.args.word.now (curie_text Inf, (Inf, refl))
 
 pub loop-place-preserved : goal.loop-place-preserved
 loop-place-preserved c =
