@@ -29,9 +29,9 @@ fn spread(alloc: Global, row: &[Step], part: &[Step; 3]) -> Result<Vec<Step>, No
     let mut longer = Vec::with_capacity(alloc, 3 * row.len())?;
     for j in 0..row.len() {
         let step = row[j];
-        longer.push(joined_step(step, part[0]))?;
-        longer.push(joined_step(step, part[1]))?;
-        longer.push(joined_step(step, part[2]))?;
+        longer.push_reserved(joined_step(step, part[0]));
+        longer.push_reserved(joined_step(step, part[1]));
+        longer.push_reserved(joined_step(step, part[2]));
     }
     Ok(longer)
 }

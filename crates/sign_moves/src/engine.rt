@@ -18,11 +18,11 @@ fn single_classes<M: Moves>(alloc: Global, moves: &M) -> Result<Vec<Entry>, NoMe
 {
     let mut table = Vec::with_capacity(alloc, moves.size())?;
     for c in 0..moves.size() {
-        table.push(Entry {
+        table.push_reserved(Entry {
             first: c as u16,
             sign: Sign::Plus,
             vanishes: false,
-        })?;
+        });
     }
     Ok(table)
 }

@@ -41,7 +41,7 @@ fn own_best(alloc: Global, size: usize) -> Result<Vec<u16>, NoMemory>
 {
     let mut best = Vec::with_capacity(alloc, size)?;
     for c in 0..size {
-        best.push(c as u16)?;
+        best.push_reserved(c as u16);
     }
     Ok(best)
 }
@@ -107,7 +107,7 @@ fn links<P: Precedence>(alloc: Global, classes: &[Entry], order: &P) -> Result<V
     let best = best_of_classes(alloc, classes, order)?;
     let mut links = Vec::with_capacity(alloc, classes.len())?;
     for c in 0..classes.len() {
-        links.push(link(classes, &best, c))?;
+        links.push_reserved(link(classes, &best, c));
     }
     Ok(links)
 }
