@@ -3,14 +3,14 @@
 --   act_told        what the comparison with the carried list tells of an operation
 --   refutes, checked_grows, invariant_end    the verdict after the first elements, or after all
 --   refuted_not, refuted_calm, all_calm      no other verdict, and no refusal, is there
-use Rattle.std.proofs.Common.{◌≡◌, ◌≢◌, ℕ, ◌+◌, ◌-◌, ◌<◌, ◌≤◌, ◌^◌, List, length, get_or, refl, ap, sym, ◌∙◌, arith, subst, inl, inr}
+use Rattle.std.proofs.Common.{◌≡◌, ℕ, ◌+◌, ◌-◌, ◌<◌, ◌≤◌, ◌^◌, List, length, get_or, ap, sym, ◌∙◌, arith, subst, inl, inr}
 use Rattle.std.specs.Prelude.{Contains, Option, Some, None, MatchOption}
 use Rattle.std.proofs.lemmas.Bool.{cases_lt}
 use Rattle.list_laws.proofs.Lists.{held_place}
 use Rattle.tensor_defs.specs.Jahn.{JahnSymbol, rank, HasSymmetry, IsInvariant}
 use Rattle.tensor_defs.specs.Number.{Root3}
 use Rattle.tensor_defs.specs.Operation.{Operation, identity}
-use Rattle.tensor_defs.specs.Tensor.{Index, Tensor, Marks, Agree, act, component_number, index_of}
+use Rattle.tensor_defs.specs.Tensor.{Tensor, Marks, act, component_number, index_of}
 use Rattle.tensor_laws.proofs.ComponentNumbers.{length-index_of}
 use Rattle.root3_num.specs.Roots.{value_of_root}
 use Rattle.tensor_rank.specs.IndexLaws.{index_number_at, component_below_at}

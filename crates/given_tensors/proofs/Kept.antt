@@ -5,7 +5,7 @@
 --   kept_step       one more operation
 --   stabiliser_told, whole_calm, whole_grows    the elements of a whole group
 --   grown_not, grown_told    a group with one more element
-use Rattle.std.proofs.Common.{◌≡◌, ◌≢◌, ℕ, ◌+◌, ◌-◌, ◌<◌, ◌≤◌, ◌^◌, List, [], ◌∷◌, length, get_or, slice_index_or, refl, ap, sym, ◌∙◌, arith, subst, inl, inr, ◌⊎◌}
+use Rattle.std.proofs.Common.{◌≡◌, ℕ, ◌+◌, ◌<◌, List, [], ◌∷◌, length, refl, ap, sym, ◌∙◌, arith, subst, inl, inr, ◌⊎◌}
 use Rattle.std.specs.Prelude.{Contains, Result, Ok, Err, IfOk, IfErr}
 use Rattle.std.proofs.lemmas.Bool.{cases_lt}
 use Rattle.list_laws.proofs.Lists.{held_place}
@@ -15,7 +15,7 @@ use Rattle.tensor_defs.specs.Lists.{IsListing}
 use Rattle.tensor_defs.specs.Operation.{Operation, IsProduct, identity}
 use Rattle.tensor_defs.specs.OperationOrder.{comes_before}
 use Rattle.tensor_defs.specs.States.{InTwinningGroup}
-use Rattle.tensor_defs.specs.Tensor.{Tensor, Marks, Agree, act, index_of}
+use Rattle.tensor_defs.specs.Tensor.{Tensor, Marks, act, index_of}
 use Rattle.tensor_laws.proofs.ActionLaws.{acts_in_turn, identity_acts_lem}
 use Rattle.tensor_laws.proofs.Agreeing.{act-agree}
 use Rattle.tensor_laws.proofs.ComponentNumbers.{length-index_of}
@@ -48,9 +48,9 @@ module _ (m : Marks) (r : ℕ) (t : Tensor) (all : List Operation) (group : IsGr
   products_stay S each k =
       generated_within S (StaysSame m r t all) (group.one, same_identity)
       (λ s l a b.
-        let x = each s a in
-        let y = group.closed s l x.0 b.0 in
-        (y.0, (y.1, same_product s l y.0 y.2 x.1 b.1), y.2)) k
+      let x = each s a in
+      let y = group.closed s l x.0 b.0 in
+      (y.0, (y.1, same_product s l y.0 y.2 x.1 b.1), y.2)) k
 
   pub kept_start : (kept : List Operation) → IsListing comes_before (λ k. k ≡ identity) kept → KeptSo m r t all kept 0
   kept_start kept one = record {

@@ -2,14 +2,14 @@
 --   Told                   what is told of a component, and that the list is so there
 --   symmetric_kept         where all components are so
 --   symmetric_follows      a list with the symmetry is so at each component
-use Rattle.std.proofs.Common.{◌≡◌, ◌≢◌, ℕ, ◌+◌, ◌*◌, ◌<◌, ◌^◌, Bool, true, false, List, [], ◌∷◌, ◌++◌, length, refl, ap, sym, ◌∙◌, arith, subst, inl, inr, ◌⊎◌, length-append}
+use Rattle.std.proofs.Common.{◌≡◌, ◌≢◌, ℕ, ◌<◌, ◌^◌, Bool, true, false, ◌++◌, length, refl, ap, sym, ◌∙◌, arith, subst, inl, inr, ◌⊎◌, length-append}
 use Rattle.std.specs.Prelude.{Contains, Option, Some, None, cond, IsTrue}
 use Rattle.list_laws.proofs.Members.{each_from, each_held}
 use Rattle.tensor_defs.specs.declared.Sign.{Sign}
 use Rattle.tensor_defs.specs.declared.Sign.TheVariants.{Plus, Minus}
 use Rattle.tensor_defs.specs.Jahn.{JahnSymbol, rank, Bracket, body_brackets, IsExchange, Respects, HasSymmetry}
 use Rattle.tensor_defs.specs.Number.{Number, neg, num_zero}
-use Rattle.tensor_defs.specs.Orders.{index_before, IsOrder}
+use Rattle.tensor_defs.specs.Orders.{index_before}
 use Rattle.tensor_defs.specs.Tensor.{Index, Tensor, component_number, index_of}
 use Rattle.tensor_laws.proofs.IndexOrder.{index_order}
 use Rattle.tensor_laws.proofs.Indices.{index_cases}

@@ -5,7 +5,7 @@
 --   byte_step, step_faulty, no_star, no_sign    the byte behind a magnitude
 --   split_at, front_spelled, whole_front    the text of what was read
 --   minus_faulty, minus_read, plus_read    with a - before the text, or without
-use Rattle.std.proofs.Common.{◌≡◌, ◌≢◌, ℕ, zero, suc, ◌+◌, ◌-◌, ◌<◌, ◌≤◌, ◌⊎◌, inl, inr, List, [], ◌∷◌, ◌++◌, length, get_or, take, drop, refl, sym, ap, subst, ◌∙◌, arith, append_assoc, length-append, length-drop}
+use Rattle.std.proofs.Common.{◌≡◌, ◌≢◌, ℕ, zero, suc, ◌+◌, ◌-◌, ◌<◌, ◌≤◌, ◌⊎◌, inl, inr, List, [], ◌∷◌, ◌++◌, length, get_or, take, drop, refl, sym, ap, subst, ◌∙◌, arith, length-drop}
 use Rattle.std.proofs.lemmas.Bool.{cases_lt}
 use Rattle.std.proofs.lemmas.List.{length-take, take-append-drop, drop_more}
 use Rattle.std.specs.Char.{digit_value}
@@ -18,8 +18,8 @@ use Rattle.tensor_defs.specs.declared.Sign.TheVariants.{Plus, Minus}
 use Rattle.text_defs.specs.Languages.{IsFaulty}
 use Rattle.text_defs.specs.declared.Fault.{Fault}
 use Rattle.fault_places.proofs.Places.{Through, Through-faulty, Through-near, Through-short, Through-start, Through-step, Through-stuck}
-use Rattle.number_words.specs.NumberWords.{IsDigits, IsQuotient, IsNumberText, ReadsNumber, IsSum, SpellsFactor, SpellsMagnitude, SpellsNumber, SpellsSigned, root_word, sign_byte, size}
-use Rattle.number_words.specs.Runs.{IsAt, IsFactorText, IsRun, IsSignedText, StopsBelow, TellsMagnitude, TellsSigned}
+use Rattle.number_words.specs.NumberWords.{IsDigits, IsNumberText, ReadsNumber, SpellsMagnitude, SpellsNumber, SpellsSigned, root_word, sign_byte, size}
+use Rattle.number_words.specs.Runs.{IsAt, IsFactorText, IsRun, IsSignedText, TellsMagnitude, TellsSigned}
 use Rattle.number_words.specs.declared.magnitudes.Magnitude.{Magnitude}
 use Rattle.number_words.proofs.Rests.{IsBehind, IsSplit, Whole, magnitude_ends, magnitude_faulty, spelled_whole, split_told}
 
@@ -110,16 +110,32 @@ module _ (s : Sign) where
 
   from_split : (z : List ℕ) → (t : IsSplit SignedRest z) → SignedRest t.rest → IsSignedText s z
   unfolding SignedRest
-  from_split z t (inl e) =
-      (size s t.n t.d, inl (t.n, t.d, subst (λ u. SpellsMagnitude u t.n t.d)
-      (sym (t.text_is ∙ ap (λ u. t.magnitude ++ u) e ∙ append_none t.magnitude)) t.spelled, refl))
+  from_split z t (inl e) = (
+    size s t.n t.d,
+    inl (
+      t.n,
+      t.d,
+      subst (λ u. SpellsMagnitude u t.n t.d)
+          (sym (t.text_is ∙ ap (λ u. t.magnitude ++ u) e ∙ append_none t.magnitude)) t.spelled,
+      refl,
+    ),
+  )
   from_split z t (inr (inl e)) =
       (mul (size s t.n t.d) root_3, inr (inl (t.n, t.d, inr (t.magnitude, t.spelled, t.text_is ∙ ap (λ u. t.magnitude ++ u) e), refl)))
   from_split z t (inr (inr (sign, f, (p, q, root), e))) = (
     add (size s t.n t.d) (mul (size sign p q) root_3),
     inr (inr (record {
-      magnitude = t.magnitude; factor = f; sign = sign; text_is = t.text_is ∙ ap (λ u. t.magnitude ++ u) e; n = t.n; d = t.d;
-      rational = t.spelled; p = p; q = q; root = root; value = refl;
+      magnitude = t.magnitude;
+      factor = f;
+      sign = sign;
+      text_is = t.text_is ∙ ap (λ u. t.magnitude ++ u) e;
+      n = t.n;
+      d = t.d;
+      rational = t.spelled;
+      p = p;
+      q = q;
+      root = root;
+      value = refl;
     })),
   )
 
@@ -306,7 +322,7 @@ front_spelled w m (inr (count, more, s, h, e)) =
         let one : 1 + more ≡ suc more = omega arith in
         ap (λ t. take (1 + more) t) f ∙ ap (λ n. take n (47 ∷ drop (count + 1) w)) one
 
-no_minus : (z : List ℕ) → RootOr SignedRest (45 ∷ z) → ⊥
+pub no_minus : (z : List ℕ) → RootOr SignedRest (45 ∷ z) → ⊥
 unfolding Whole SignedRest
 no_minus z (inl e) = minus_no_root (heads e)
 no_minus z (inr (inl x)) = sign_no_digit Minus x.0

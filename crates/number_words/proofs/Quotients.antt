@@ -1,9 +1,9 @@
 -- Quotients of numbers of at most 18 digits.
 --   new_held        such a quotient is held
 --   wide            such a number as a signed one
-use Rattle.std.proofs.Common.{◌≡◌, ℕ, ◌<◌, ◌^◌, ap, subst, arith, refl, Result, Ok, Err}
+use Rattle.std.proofs.Common.{◌≡◌, ℕ, ◌<◌, ◌^◌, ap, arith, refl, Result, Ok, Err}
 use Rattle.std.specs.Result.{IsOk}
-use lib.IntN.{ℤ, pos}
+use lib.IntN.{pos}
 use mir.Syntax.{w64}
 use mir.Val.{to_z}
 use Rattle.std.proofs.lemmas.Int.{to_z_pos}

@@ -3,7 +3,7 @@
 --   IsBehind        no digit and no / begins what stands behind a magnitude
 --   magnitude_ends, magnitude_faulty    behind the magnitude that was read, or where there is none
 --   spelled_whole, split_told    magnitudes by their texts
-use Rattle.std.proofs.Common.{◌≡◌, ◌≢◌, ℕ, zero, suc, ◌+◌, ◌-◌, ◌*◌, ◌<◌, ◌≤◌, ◌⊎◌, inl, inr, List, [], ◌∷◌, ◌++◌, length, get_or, take, drop, min, refl, sym, ap, subst, ◌∙◌, arith, lit<, append_assoc, length-append, length-drop}
+use Rattle.std.proofs.Common.{◌≡◌, ℕ, zero, suc, ◌+◌, ◌-◌, ◌*◌, ◌<◌, ◌≤◌, ◌⊎◌, inl, inr, List, [], ◌∷◌, ◌++◌, length, get_or, take, drop, min, refl, sym, ap, subst, ◌∙◌, arith, lit<, append_assoc, length-drop}
 use Rattle.std.proofs.lemmas.Bool.{cases_lt}
 use Rattle.std.proofs.lemmas.List.{get_or-take, length-take, drop_more, get_or-drop}
 use Rattle.std.proofs.Math.ListN.{drop_of_length-le}
@@ -14,10 +14,10 @@ use Rattle.std.specs.Str.Parse.{AllDigits, digits_value, digits_value_after}
 use Rattle.text_defs.specs.Languages.{IsFaulty}
 use Rattle.text_defs.specs.declared.Fault.{Fault}
 use Rattle.fault_places.proofs.Places.{Through, Through-step, Through-stuck, Through-short, Through-near}
-use Rattle.number_words.specs.NumberWords.{IsDigits, IsQuotient, SpellsMagnitude}
+use Rattle.number_words.specs.NumberWords.{IsDigits, SpellsMagnitude}
 use Rattle.number_words.specs.Runs.{IsRun, StopsBelow, StopsWhole, TellsMagnitude}
 use Rattle.number_words.specs.declared.magnitudes.Magnitude.{Magnitude}
-use Rattle.std.specs.Prelude.{Result, Ok, Err}
+use Rattle.std.specs.Prelude.{Ok, Err}
 
 unfoldable pub Below : (List ℕ → Type 0) → ℕ → ℕ → List ℕ → Type 0
 Below K k v [] = (1 ≤ k) × (0 < v) × K []
@@ -275,8 +275,12 @@ module _ (K : List ℕ → Type 0) (behind : IsBehind K) where
   unfolding Below
   below_front [] k v h few z x = subst (λ n. Below K n v z) (omega arith) x
   below_front (b ∷ es) k v h few z x =
-      inl (h.0, omega arith, below_front es (suc k) (v * 10 + digit_value b) h.1 (omega arith) z
-      (subst (λ n. Below K n (digits_value_after 10 (v * 10 + digit_value b) es) z) (omega arith) x))
+      inl (
+        h.0,
+        omega arith,
+        below_front es (suc k) (v * 10 + digit_value b) h.1 (omega arith) z
+            (subst (λ n. Below K n (digits_value_after 10 (v * 10 + digit_value b) es) z) (omega arith) x),
+      )
 
   whole_front : (ds : List ℕ) (k : ℕ) → AllDigits 10 ds → k + length ds ≤ 18 → (z : List ℕ) → Whole K (k + length ds) z → Whole K k (ds ++ z)
   unfolding Whole
@@ -323,10 +327,24 @@ record BelowSplit (K : List ℕ → Type 0) (k v : ℕ) (text : List ℕ) : Type
 below_split : (K : List ℕ → Type 0) (k v : ℕ) (z : List ℕ) → k ≤ 18 → Below K k v z → BelowSplit K k v z
 unfolding Below
 below_split K k v [] few x = record {
-  es = []; rest = []; text_is = refl; digits = tt; some = let a = x.0 in omega arith; few = omega arith; positive = x.1; behind = x.2;
+  es = [];
+  rest = [];
+  text_is = refl;
+  digits = tt;
+  some = let a = x.0 in omega arith;
+  few = omega arith;
+  positive = x.1;
+  behind = x.2;
 }
 below_split K k v (b ∷ z) few (inr x) = record {
-  es = []; rest = b ∷ z; text_is = refl; digits = tt; some = let a = x.0 in omega arith; few = omega arith; positive = x.1; behind = x.2;
+  es = [];
+  rest = b ∷ z;
+  text_is = refl;
+  digits = tt;
+  some = let a = x.0 in omega arith;
+  few = omega arith;
+  positive = x.1;
+  behind = x.2;
 }
 below_split K k v (b ∷ z) few (inl x) =
     let l = x.1 in
@@ -334,8 +352,14 @@ below_split K k v (b ∷ z) few (inl x) =
     let p = s.some in
     let q = s.few in
     record {
-      es = b ∷ s.es; rest = s.rest; text_is = ap (λ t. b ∷ t) s.text_is; digits = (x.0, s.digits); some = omega arith; few = omega arith;
-      positive = s.positive; behind = s.behind;
+      es = b ∷ s.es;
+      rest = s.rest;
+      text_is = ap (λ t. b ∷ t) s.text_is;
+      digits = (x.0, s.digits);
+      some = omega arith;
+      few = omega arith;
+      positive = s.positive;
+      behind = s.behind;
     }
 
 record WholeSplit (K : List ℕ → Type 0) (k : ℕ) (text : List ℕ) : Type 0 where
@@ -350,13 +374,30 @@ record WholeSplit (K : List ℕ → Type 0) (k : ℕ) (text : List ℕ) : Type 0
 whole_split : (K : List ℕ → Type 0) (k : ℕ) (z : List ℕ) → k ≤ 18 → Whole K k z → WholeSplit K k z
 unfolding Whole
 whole_split K k [] few x = record {
-  ds = []; rest = []; text_is = refl; digits = tt; some = let a = x.0 in omega arith; few = omega arith; behind = inl x.1;
+  ds = [];
+  rest = [];
+  text_is = refl;
+  digits = tt;
+  some = let a = x.0 in omega arith;
+  few = omega arith;
+  behind = inl x.1;
 }
 whole_split K k (b ∷ z) few (inr (inr x)) = record {
-  ds = []; rest = b ∷ z; text_is = refl; digits = tt; some = let a = x.0 in omega arith; few = omega arith; behind = inl x.1;
+  ds = [];
+  rest = b ∷ z;
+  text_is = refl;
+  digits = tt;
+  some = let a = x.0 in omega arith;
+  few = omega arith;
+  behind = inl x.1;
 }
 whole_split K k (b ∷ z) few (inr (inl x)) = record {
-  ds = []; rest = b ∷ z; text_is = refl; digits = tt; some = let a = x.1 in omega arith; few = omega arith;
+  ds = [];
+  rest = b ∷ z;
+  text_is = refl;
+  digits = tt;
+  some = let a = x.1 in omega arith;
+  few = omega arith;
   behind = inr (z, ap (λ c. c ∷ z) x.0, x.2);
 }
 whole_split K k (b ∷ z) few (inl x) =
@@ -365,7 +406,12 @@ whole_split K k (b ∷ z) few (inl x) =
     let p = s.some in
     let q = s.few in
     record {
-      ds = b ∷ s.ds; rest = s.rest; text_is = ap (λ t. b ∷ t) s.text_is; digits = (x.0, s.digits); some = omega arith; few = omega arith;
+      ds = b ∷ s.ds;
+      rest = s.rest;
+      text_is = ap (λ t. b ∷ t) s.text_is;
+      digits = (x.0, s.digits);
+      some = omega arith;
+      few = omega arith;
       behind = s.behind;
     }
 
@@ -378,17 +424,28 @@ split_told K z x = told (whole_split K 0 z (omega arith) x)
     told : WholeSplit K 0 z → IsSplit K z
     told s = elim s.behind [
       | inl h ↦ record {
-          magnitude = s.ds; rest = s.rest; text_is = s.text_is; n = digits_value 10 s.ds; d = 1;
-          spelled = inl (digits_of s.ds s.digits s.some s.few, refl); behind = h;
-        }
+        magnitude = s.ds;
+        rest = s.rest;
+        text_is = s.text_is;
+        n = digits_value 10 s.ds;
+        d = 1;
+        spelled = inl (digits_of s.ds s.digits s.some s.few, refl);
+        behind = h;
+      }
       | inr h ↦ (let b = below_split K 0 0 h.0 (omega arith) h.2 in
           record {
-            magnitude = s.ds ++ 47 ∷ b.es; rest = b.rest;
+            magnitude = s.ds ++ 47 ∷ b.es;
+            rest = b.rest;
             text_is = s.text_is ∙ ap (λ t. s.ds ++ t) (h.1 ∙ ap (λ t. 47 ∷ t) b.text_is) ∙ sym (append_assoc s.ds (47 ∷ b.es) b.rest);
-            n = digits_value 10 s.ds; d = digits_value 10 b.es;
+            n = digits_value 10 s.ds;
+            d = digits_value 10 b.es;
             spelled = inr (record {
-              top = s.ds; below = b.es; text_is = refl; numerator = digits_of s.ds s.digits s.some s.few;
-              denominator = digits_of b.es b.digits b.some b.few; not_zero = b.positive;
+              top = s.ds;
+              below = b.es;
+              text_is = refl;
+              numerator = digits_of s.ds s.digits s.some s.few;
+              denominator = digits_of b.es b.digits b.some b.few;
+              not_zero = b.positive;
             });
             behind = b.behind;
           })

@@ -8,7 +8,7 @@
 --   IsNumberText    the text of some number
 --   ReadsNumber     the number that the whole word stands for, or where the word goes wrong
 -- Source: the field Q(√3); the texts are this project's own.
-use Rattle.std.specs.Prelude.{◌≡◌, ◌⊎◌, ℕ, ◌<◌, ◌≤◌, pos, List, [], ◌∷◌, ◌++◌, length, codes, Result, Ok, Err}
+use Rattle.std.specs.Prelude.{◌≡◌, ◌⊎◌, ℕ, ◌<◌, ◌≤◌, pos, List, ◌∷◌, ◌++◌, length, codes, Result, Ok, Err}
 use Rattle.std.specs.Str.Parse.{AllDigits, digits_value}
 use Rattle.tensor_defs.specs.Number.{Number, Root3, add, mul, over, root_3}
 use Rattle.tensor_defs.specs.declared.Sign.{Sign}

@@ -12,10 +12,17 @@ fn numbers_are_read(rt: HostRuntime) -> Result<(), Fail> {
         ("-2/4*r3", "-1/2*r3"),
         ("1/2-3/4*r3", "1/2-3/4*r3"),
         ("-10/5+r3", "-2+r3"),
-        ("999999999999999999/000000000000000001", "999999999999999999"),
+        (
+            "999999999999999999/000000000000000001",
+            "999999999999999999",
+        ),
     ] {
         let number = read_number(word.as_bytes())?;
-        assert_eq!(rt; number.text(rt.alloc()).as_slice(), text.as_bytes(), "{word}");
+        assert_eq!(rt;
+            number.text(rt.alloc()).as_slice(),
+            text.as_bytes(),
+            "{word}"
+        );
     }
     for (word, place) in [
         ("", 0),

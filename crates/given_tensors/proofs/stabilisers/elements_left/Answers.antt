@@ -1,4 +1,4 @@
-use Rattle.std.proofs.Common.{◌≡◌, ◌+◌, length, arith}
+use Rattle.std.proofs.Common.{◌≡◌, length, arith}
 use Rattle.tensor_defs.specs.Operation.{identity}
 use Rattle.tensor_rank.specs.Flags.{marks_of}
 use Rattle.tensor_action.specs.Acting.{tensor_of}

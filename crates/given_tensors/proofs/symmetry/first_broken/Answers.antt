@@ -1,4 +1,4 @@
-use Rattle.std.proofs.Common.{◌≡◌, ℕ, ◌+◌, ◌<◌, subst, sym, arith, inl, inr}
+use Rattle.std.proofs.Common.{◌≡◌, subst, arith, inl, inr}
 use Rattle.std.proofs.lemmas.Bool.{cases_lt}
 use Rattle.tensor_action.specs.Acting.{tensor_of}
 use Rattle.given_tensors.specs.Verdicts.{Follows}

@@ -1,4 +1,4 @@
-use Rattle.std.proofs.Common.{◌≡◌, ℕ, ◌<◌}
+use Rattle.std.proofs.Common.{ℕ, ◌<◌}
 use Rattle.tensor_defs.specs.Jahn.{JahnSymbol}
 use Rattle.tensor_rank.specs.Shapes.{IsShapeOf}
 use Rattle.tensor_action.specs.Acting.{tensor_of}

@@ -1,4 +1,4 @@
-use Rattle.std.proofs.Common.{◌<◌, ◌+◌, length, arith}
+use Rattle.std.proofs.Common.{◌<◌, length, arith}
 use Rattle.number_words.proofs.Digits.{front_below, front_more, front_room}
 use Rattle.number_words.proofs.magnitudes.read_digits.Goals as goal
 

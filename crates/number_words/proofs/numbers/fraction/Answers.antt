@@ -1,4 +1,4 @@
-use Rattle.std.proofs.Common.{◌≡◌, subst}
+use Rattle.std.proofs.Common.{subst}
 use lib.IntN.{pos}
 use mir.Syntax.{w64}
 use mir.Val.{to_z}

@@ -1,4 +1,4 @@
-use Rattle.std.proofs.Common.{◌≡◌, ◌∙◌, ◌+◌, ◌++◌, ◌∷◌, ap, sym, take, refl, inr}
+use Rattle.std.proofs.Common.{◌≡◌, ◌∙◌, ◌+◌, ◌++◌, ◌∷◌, ap, sym, take, inr}
 use Rattle.number_words.specs.NumberWords.{root_word}
 use Rattle.number_words.specs.Runs.{IsFactorText}
 use Rattle.number_words.proofs.Languages.{FactorRest, behind_factor, ended, factor_from, factor_star, factor_to, front_spelled, no_magnitude, no_star, rest_is, root_faulty, split_at, star_factor, step_faulty}
@@ -22,9 +22,12 @@ returns-then-not-has_at-clause-tells c =
 pub returns-in-Ok-read_root-clause-tells : goal.returns-in-Ok-read_root-clause-tells
 returns-in-Ok-read_root-clause-tells c =
     let m = c.in-Ok-read_magnitude.m in
-    inr (take m.end c.args.text.now, front_spelled c.args.text.now m c.in-Ok-read_magnitude.ensures.tells,
-    split_at c.args.text.now m.end 42 (rw c.if-not-has_at.false at c.has_at-2.ensures)
-    ∙ ap (λ t. take m.end c.args.text.now ++ 42 ∷ t) (sym (rest_is c.args.text.now (m.end + 1)) ∙ c.in-Ok-read_root.ensures))
+    inr (
+      take m.end c.args.text.now,
+      front_spelled c.args.text.now m c.in-Ok-read_magnitude.ensures.tells,
+      split_at c.args.text.now m.end 42 (rw c.if-not-has_at.false at c.has_at-2.ensures)
+          ∙ ap (λ t. take m.end c.args.text.now ++ 42 ∷ t) (sym (rest_is c.args.text.now (m.end + 1)) ∙ c.in-Ok-read_root.ensures),
+    )
 
 pub returns-in-Err-read_root-clause-tells : goal.returns-in-Err-read_root-clause-tells
 returns-in-Err-read_root-clause-tells c =

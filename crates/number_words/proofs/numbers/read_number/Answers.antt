@@ -1,4 +1,3 @@
-use Rattle.number_words.specs.NumberWords.{ReadsNumber}
 use Rattle.number_words.proofs.Languages.{minus_faulty, plus_read}
 use Rattle.number_words.proofs.numbers.read_number.Goals as goal
 

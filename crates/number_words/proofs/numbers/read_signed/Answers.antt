@@ -2,7 +2,7 @@ use Rattle.std.proofs.Common.{◌≡◌, ◌∙◌, ◌+◌, ◌++◌, ◌∷◌
 use Rattle.tensor_defs.specs.Number.{add, mul, root_3}
 use Rattle.number_words.specs.NumberWords.{SpellsFactor, root_word, sign_byte, size}
 use Rattle.number_words.specs.Runs.{IsAt, IsFactorText, IsSignedText}
-use Rattle.number_words.proofs.Languages.{SignedRest, behind_signed, ended, front_spelled, no_magnitude, no_sign, rest_is, root_faulty, sign_signed, signed_from, signed_sign, signed_star, signed_to, split_at, star_signed, step_faulty, whole_front}
+use Rattle.number_words.proofs.Languages.{SignedRest, behind_signed, ended, front_spelled, no_magnitude, no_sign, rest_is, root_faulty, sign_signed, signed_from, signed_sign, signed_star, signed_to, split_at, star_signed, step_faulty}
 use Rattle.number_words.proofs.numbers.read_signed.Goals as goal
 
 pub returns-in-Err : goal.returns-in-Err
@@ -17,10 +17,17 @@ returns-in-Err-read_magnitude c =
 pub returns-in-Ok-read_root : goal.returns-in-Ok-read_root
 returns-in-Ok-read_root c =
     let m = c.in-Ok-read_magnitude.m in
-    inr (inl (m.num, m.den, inr (take m.end c.args.text.now, front_spelled c.args.text.now m c.in-Ok-read_magnitude.ensures.tells,
-    split_at c.args.text.now m.end 42 (rw c.if-has_at-2.true at c.has_at-2.ensures)
-    ∙ ap (λ t. take m.end c.args.text.now ++ 42 ∷ t) (sym (rest_is c.args.text.now (m.end + 1)) ∙ c.in-Ok-read_root.ensures)),
-    c.times_root-in-Ok-read_root.ensures ∙ ap (λ x. mul x root_3) (sym c.fraction-first.ensures.same)))
+    inr (inl (
+      m.num,
+      m.den,
+      inr (
+        take m.end c.args.text.now,
+        front_spelled c.args.text.now m c.in-Ok-read_magnitude.ensures.tells,
+        split_at c.args.text.now m.end 42 (rw c.if-has_at-2.true at c.has_at-2.ensures)
+            ∙ ap (λ t. take m.end c.args.text.now ++ 42 ∷ t) (sym (rest_is c.args.text.now (m.end + 1)) ∙ c.in-Ok-read_root.ensures),
+      ),
+      c.times_root-in-Ok-read_root.ensures ∙ ap (λ x. mul x root_3) (sym c.fraction-first.ensures.same),
+    ))
 
 pub returns-in-Err-read_root : goal.returns-in-Err-read_root
 returns-in-Err-read_root c =

@@ -1,4 +1,4 @@
-use Rattle.std.proofs.Common.{◌≡◌, ◌∙◌, ap, sym}
+use Rattle.std.proofs.Common.{◌∙◌, ap, sym}
 use Rattle.tensor_defs.specs.Number.{add, mul, root_3, value_of}
 use Rattle.number_laws.proofs.NumberLaws.{num_zero-add}
 use Rattle.root3_num.specs.Roots.{value_of_root}
