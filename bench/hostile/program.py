@@ -51,7 +51,7 @@ def expect(tried, got, status, out):
 def words():
     for given in ["--frob"], ["--help"], ["--seed", "1"], ["--generate", "3", "--seed", "0"], ["x"], [b"\xff"]:
         got = run(ONE, given)
-        holds = got[0] == 2 and got[1] == b"" and got[2].startswith(b"usage: tensors")
+        holds = got[0] == 2 and got[1] == b"" and got[2] == b"usage: tensors [--generate N --seed S]\n"
         stands(f"words {given}", holds, f"status {got[0]}, {shown(got[1])}, on standard error {shown(got[2])}")
     expect("words --generate 3 --seed 1", run(ONE, ["--generate", "3", "--seed", "1"]), 0, SUMMARY)
     first = run(b"", ["--generate", "300", "--seed", "7"])

@@ -6,6 +6,8 @@ mod differ;
 #[cfg(test)]
 mod formats;
 #[cfg(test)]
+mod generated;
+#[cfg(test)]
 mod long_lines;
 #[cfg(test)]
 mod ports;

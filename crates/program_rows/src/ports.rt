@@ -263,25 +263,6 @@ fn statuses(rt: HostRuntime) {
     }
 }
 
-/// Words that no run takes: nothing is read and nothing is written.
-#[test]
-fn words(rt: HostRuntime) -> Result<(), Fail> {
-    let alloc = rt.alloc();
-    for word in ["x", "--frob", "--help", "", "form 1 1"] {
-        let words = vec![in alloc; String::from_str(alloc, word)?]?;
-        let mut source = MemSource::new(INPUT.as_bytes().to_vec(alloc)?, 4, Vec::new(alloc));
-        let mut sink = MemSink::new(alloc, 200, 7, Vec::new(alloc), None)?;
-        assert_eq!(rt;
-            run(alloc, &words, &mut source, &mut sink),
-            Outcome::Usage,
-            "{word}"
-        );
-        assert_eq!(rt; source.remaining().len(), INPUT.len(), "{word}");
-        assert_eq!(rt; sink.taken().len(), 0, "{word}");
-    }
-    Ok(())
-}
-
 /// An input of lines that are no requests, with a sink whose room is taken beforehand. Where memory is refused, it is before
 /// the first read.
 #[test]
