@@ -4,7 +4,7 @@
 --   IsMarkedUpTo, marks_start, marks_more, marks_done    marks of the free components
 --   sum_whole, named_term, sum_grown, sum_done, unit_text, minus_first    sums
 --   name_grown, name_longer, name_done    names
---   terms_named, free_line, sum_line    lines
+--   terms_named, free_line, sum_line, zero_line    lines
 --   grown_twice, lines_start, lines_grown    lists that have grown
 use Rattle.std.proofs.Common.{◌≡◌, ℕ, zero, suc, ◌+◌, ◌*◌, ◌^◌, ◌<◌, ◌≤◌, Bool, true, false, List, [], ◌∷◌, ◌++◌, map, length, get_or, inl, inr, refl, ap, sym, ◌∙◌, arith, subst, length-append}
 use Rattle.std.specs.List.{flat_map}
@@ -259,6 +259,16 @@ sum_line r c f old one two three new name free below each is a b d e =
     ∙ equation_joined old (component_name (index_of r c)) (sum_text (named_terms r f (row_at f.rows c)))
     ∙ ap (λ ts. old ++ row_text false (component_name (index_of r c)) ts) (sym (terms_named r c f below each))
     ∙ ap (λ t. old ++ row_text t (component_name (index_of r c)) (named (free_names (form_table r f)) ((form_table r f).terms (index_of r c)))) (sym free)
+
+pub zero_line : (r c : ℕ) (f : FormValue) (old one new : List ℕ) → has_index (map (index_of r) f.free) (index_of r c) ≡ false → c < 3 ^ r →
+    row_at f.rows c ≡ [] → one ≡ old ++ component_name (index_of r c) → new ≡ one ++ (32 ∷ 61 ∷ 32 ∷ 48 ∷ 10 ∷ []) → new ≡ old ++ component_line (form_table r f) (index_of r c)
+zero_line r c f old one new free below none a b =
+    let two : List ℕ = one ++ (32 ∷ 61 ∷ 32 ∷ []) in
+    let joined_up : one ++ (32 ∷ 61 ∷ 32 ∷ 48 ∷ 10 ∷ []) ≡ (two ++ 48 ∷ []) ++ 10 ∷ [] =
+    sym (append_assoc two (48 ∷ []) (10 ∷ []) ∙ append_assoc one (32 ∷ 61 ∷ 32 ∷ []) (48 ∷ 10 ∷ [])) in
+    sum_line r c f old one two (two ++ 48 ∷ []) new (component_name (index_of r c)) free below
+    (subst (λ (ts : List Term). Each (λ t. t.free < length f.free) ts) (sym none) tt) refl a refl
+    (ap (λ (ts : List Term). two ++ sum_text (named_terms r f ts)) (sym none)) (b ∙ joined_up)
 
 -- ---- lists that have grown
 pub grown_twice : {a b c : List ℕ} → IsLonger a b → IsLonger b c → IsLonger a c

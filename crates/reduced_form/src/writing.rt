@@ -216,8 +216,12 @@ fn write_line<R: Rank>(
     if marks[number] {
         return append_to(out, b" free\n");
     }
+    let row = form.row(c);
+    if row.is_empty() {
+        return append_to(out, b" = 0\n");
+    }
     append_to(out, b" = ")?;
-    write_sum(form, form.row(c), out)?;
+    write_sum(form, row, out)?;
     append_to(out, b"\n")
 }
 

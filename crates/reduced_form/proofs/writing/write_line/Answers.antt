@@ -1,4 +1,4 @@
-use Rattle.std.proofs.Common.{◌≡◌, ◌<◌, ◌^◌, ◌++◌, ℕ, List, length, map, ap, sym, ◌∙◌, subst, refl}
+use Rattle.std.proofs.Common.{◌≡◌, ◌<◌, ◌^◌, ◌++◌, ℕ, List, length, map, ap, sym, ◌∙◌, subst, refl, arith, rules, [], ◌∷◌}
 use Rattle.std.proofs.lemmas.Result.{on_ok_weaker}
 use Rattle.tensor_defs.specs.Lists.{Each}
 use Rattle.tensor_defs.specs.Tensor.{index_of}
@@ -7,8 +7,26 @@ use Rattle.text_defs.specs.NumberTexts.{sum_text}
 use Rattle.reduced_form.specs.declared.forms.Term.{Term}
 use Rattle.reduced_form.specs.Forms.{FormValue, row_at}
 use Rattle.reduced_form.specs.Texts.{named_terms}
-use Rattle.reduced_form.proofs.TextLaws.{sum_line}
+use Rattle.reduced_form.proofs.TextLaws.{sum_line, zero_line}
 use Rattle.reduced_form.proofs.writing.write_line.Goals as goal
+
+no_terms : (xs : List Term) → length xs ≡ 0 → xs ≡ []
+no_terms [] h = refl
+no_terms (x ∷ xs) h = absurd (omega arith)
+
+pub returns-then-is_empty-clause-ok : goal.returns-then-is_empty-clause-ok
+returns-then-is_empty-clause-ok g c =
+    let r = g.R.Rank.R in
+    let f : FormValue = c.args.form.now in
+    let n : ℕ = c.args.number in
+    let below : n < 3 ^ r = subst (λ (x : ℕ). n < x) g.R.Rank.power c.requires.number in
+    let row : c.row-row.result.now ≡ row_at f.rows n = c.row-row.ensures ∙ ap (row_at f.rows) c.at-c.ensures in
+    let none : length c.row-row.result.now ≡ 0 = search rules in
+    let here : c.write_name.new.out.items ≡ c.args.out.now.items ++ component_name (index_of r n) =
+    c.in_ok-write_name.ensures.ok ∙ ap (λ d. c.args.out.now.items ++ component_name (index_of r d)) c.at-c.ensures in
+    on_ok_weaker c.append_to-then-is_empty.result (λ last.
+    zero_line r n f c.args.out.now.items c.write_name.new.out.items c.append_to-then-is_empty.new.out.items
+    (sym (c.requires.marks.is n c.requires.number) ∙ c.if-marks-number.false) below (sym row ∙ no_terms c.row-row.result.now none) here last) c.append_to-then-is_empty.ensures.ok
 
 pub returns-clause-ok : goal.returns-clause-ok
 returns-clause-ok g c =
@@ -18,7 +36,7 @@ returns-clause-ok g c =
     let below : n < 3 ^ r = subst (λ (x : ℕ). n < x) g.R.Rank.power c.requires.number in
     let each : Each (λ t. t.free < length f.free) (row_at f.rows n) =
     subst (λ (v : FormValue). Each (λ t. t.free < length v.free) (row_at v.rows n)) c.form.view_is (c.form.invariant.named n c.requires.number) in
-    let row : c.row.result.now ≡ row_at f.rows n = c.row.ensures ∙ ap (row_at f.rows) c.at-c.ensures in
+    let row : c.row-row.result.now ≡ row_at f.rows n = c.row-row.ensures ∙ ap (row_at f.rows) c.at-c.ensures in
     let kept : c.write_sum.new.out.items ≡ c.append_to-2.new.out.items ++ sum_text (named_terms r f (row_at f.rows n)) =
     c.in_ok-write_sum.ensures.ok ∙ ap (λ (ts : List Term). c.append_to-2.new.out.items ++ sum_text (named_terms r f ts)) row in
     let here : c.write_name.new.out.items ≡ c.args.out.now.items ++ component_name (index_of r n) =
