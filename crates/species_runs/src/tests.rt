@@ -47,13 +47,7 @@ fn answers_are_written(rt: HostRuntime) -> Result<(), Fail> {
         ),
     ];
     for (words, text) in &rows {
-        expect_run(
-            &rt,
-            rt.alloc(),
-            words,
-            &[],
-            (*text, ToolEnd::Answered),
-        )?;
+        expect_run(&rt, rt.alloc(), words, &[], (*text, ToolEnd::Answered))?;
     }
     Ok(())
 }
