@@ -1,0 +1,60 @@
+-- Words that have an answer are not refused.
+--   pair_refused    a refusal of two accepted symbols is one of the words
+--   not_refused     where no refusal of the symbols applies, none of the words does
+use Rattle.std.proofs.Common.{◌≡◌, ℕ, ◌+◌, ◌≤◌, List, [], ◌∷◌, get_or, length, refl, subst, sym, arith, inl, inr}
+use Rattle.tensor_defs.specs.Group.{IsAccepted}
+use Rattle.tensor_defs.specs.Symbols.{GroupSymbol}
+use Rattle.text_laws.specs.Laws.{OneGroupSymbol}
+use Rattle.tool_runs.specs.Tools.{FirstLongFrom, NoneLong, Words}
+use Rattle.tool_runs.specs.declared.refusals.RefusalName.{RefusalName}
+use Rattle.tool_runs.specs.declared.refusals.RefusalName.TheVariants as Name
+use Rattle.tool_runs.specs.declared.refusals.ToolRefusal.{ToolRefusal}
+use Rattle.species_runs.specs.SpeciesWords.{AreAsked, AreSpelled, Refuses, RefusesAs, RefusesPair}
+
+pub pair_refused : (words : Words) (g f : GroupSymbol) → AreAsked words g f → (name : RefusalName) → RefusesPair g f name →
+    RefusesAs name words 2 1
+pair_refused words g f asked (Name.NotSub k) h = (g, f, asked, h, refl, refl)
+pair_refused words g f asked Name.TooLarge h = (g, f, asked, h, refl, refl)
+pair_refused words g f asked Name.Long h = absurd h
+pair_refused words g f asked Name.Syntax h = absurd h
+pair_refused words g f asked Name.Primes h = absurd h
+pair_refused words g f asked Name.Rank h = absurd h
+pair_refused words g f asked Name.Twice h = absurd h
+pair_refused words g f asked Name.NoName h = absurd h
+
+none_first : (ws : Words) (k n : ℕ) → NoneLong ws → FirstLongFrom k ws n → ⊥
+none_first [] k n none first = first
+none_first (w ∷ ws) k n none (inl x) = let a = none.0 in let b = x.0 in omega arith
+none_first (w ∷ ws) k n none (inr x) = none_first ws (k + 1) n none.1 x.1
+
+module _ (law : OneGroupSymbol) (words : Words) (g f : GroupSymbol) (asked : AreAsked words g f)
+    (none : (name : RefusalName) → ¬ RefusesPair g f name) where
+  group_same : (h k : GroupSymbol) → AreSpelled words h k → g ≡ h
+  group_same h k other = law (get_or words 0 []) g h asked.spelled.group_is other.group_is
+
+  subgroup_same : (h k : GroupSymbol) → AreSpelled words h k → f ≡ k
+  subgroup_same h k other = law (get_or words 1 []) f k asked.spelled.subgroup_is other.subgroup_is
+
+  no_pair : (name : RefusalName) (h k : GroupSymbol) → AreAsked words h k → RefusesPair h k name → ⊥
+  no_pair name h k other refuses =
+      none name (subst (λ (x : GroupSymbol). RefusesPair x f name) (sym (group_same h k other.spelled))
+      (subst (λ (x : GroupSymbol). RefusesPair h x name) (sym (subgroup_same h k other.spelled)) refuses))
+
+  not_refused_as : (name : RefusalName) (number column : ℕ) → RefusesAs name words number column → ⊥
+  not_refused_as Name.Long number column h = none_first words 1 number asked.spelled.short h.0
+  not_refused_as Name.Syntax number column (short, place, first, is) = elim first [
+    | inl x ↦ x.0.none (g, asked.spelled.group_is)
+    | inr x ↦ x.1.none (f, asked.spelled.subgroup_is)
+  ]
+  not_refused_as Name.Primes number column (h, k, spelled, first, is) = elim first [
+    | inl x ↦ x.0 (subst IsAccepted (group_same h k spelled) asked.group_accepted)
+    | inr x ↦ x.1 (subst IsAccepted (subgroup_same h k spelled) asked.subgroup_accepted)
+  ]
+  not_refused_as Name.Rank number column (h, k, other, refuses, p, q) = no_pair Name.Rank h k other refuses
+  not_refused_as (Name.NotSub n) number column (h, k, other, refuses, p, q) = no_pair (Name.NotSub n) h k other refuses
+  not_refused_as Name.TooLarge number column (h, k, other, refuses, p, q) = no_pair Name.TooLarge h k other refuses
+  not_refused_as Name.Twice number column (h, k, other, refuses, p, q) = no_pair Name.Twice h k other refuses
+  not_refused_as Name.NoName number column (h, k, other, refuses, p, q) = no_pair Name.NoName h k other refuses
+
+  pub not_refused : (r : ToolRefusal) → Refuses words r → ⊥
+  not_refused r h = not_refused_as r.name r.word r.column h

@@ -1,0 +1,3 @@
+pub mod SpeciesTexts
+pub mod SpeciesWords
+pub mod Stops
