@@ -1,5 +1,5 @@
 //! The run of the program on its words.
-ghost use Rattle.std.specs.Prelude.{◌≡◌, ◌≤◌, ◌∷◌, [], IfErr, IfOk, length, map, string_bytes};
+ghost use Rattle.std.specs.Prelude.{◌≡◌, ◌≢◌, ◌∷◌, [], IfErr, IfOk, length, map, string_bytes};
 ghost use Rattle.tensor_defs.specs.Frames.{IsFramed};
 ghost use Rattle.tensor_defs.specs.Group.{InGroup, IsAccepted};
 ghost use Rattle.tensor_defs.specs.Lists.{IsListing};
@@ -123,7 +123,9 @@ fn text_for(alloc: Global, words: &[String]) -> Result<(Kind, Vec<u8>), NoMemory
 pub fn run_species<O: Sink>(alloc: Global, words: &[String], sink: &mut O) -> ToolEnd
     ensures leaves { Leaves (IsSpeciesAnswer (map string_bytes words.now)) result (O.written sink.old) (O.written sink.new) }
     ensures cause { result ≡ ToolEnd.WriteFault → Rose (O.faults sink.old) (O.faults sink.new) }
-    ensures later { O.faults sink.old ≤ O.faults sink.new }
+
+    // No fault is passed over.
+    ensures calm { result ≢ ToolEnd.WriteFault → O.faults sink.new ≡ O.faults sink.old }
 {
     match text_for(alloc, words) {
         Ok((kind, text)) => write_text(kind, &text, sink),
