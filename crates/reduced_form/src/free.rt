@@ -9,50 +9,52 @@ use constraint_rows::Classes;
 use std::alloc::Global;
 use tensor_rank::{Comp, Order, Rank};
 
-/// Where a component belongs among free components that rise in an order: behind the last one, or else where halving
-/// finds the first that comes after it.
-fn place_for<R: Rank>(free: &[u16], order: &Order<R>, c: usize) -> usize
+/// Where a component belongs among free components that rise in an order, looked for from a place on.
+fn place_for<R: Rank>(free: &[u16], order: &Order<R>, c: usize, near: usize) -> usize
     requires component { c < R.LEN }
+    requires near { near ≤ length free.now }
     requires below { (k : ℕ) → k < length free.now → free_at free.now k < R.LEN }
     requires rising { (i k : ℕ) → i < k → k < length free.now → before_at R.R order.now (free_at free.now i) (free_at free.now k) ≡ true }
     ensures within { result ≤ length free.now }
     ensures after { (k : ℕ) → result ≤ k → k < length free.now → before_at R.R order.now c (free_at free.now k) ≡ true }
     ensures before { (k : ℕ) → k + 1 ≡ result → before_at R.R order.now c (free_at free.now k) ≡ false }
 {
-    let mut low = 0;
-    let mut high = free.len();
-    if high > 0 && !order.before(Comp::at(c), Comp::at(free[high - 1] as usize)) {
-        return high;
+    let mut place = near;
+    while place > 0 && order.before(Comp::at(c), Comp::at(free[place - 1] as usize)) {
+        place -= 1;
     }
-    while low < high {
-        let middle = low + (high - low) / 2;
-        if order.before(Comp::at(c), Comp::at(free[middle] as usize)) {
-            high = middle;
-        } else {
-            low = middle + 1;
-        }
+    if place < near {
+        return place;
     }
-    low
+    while place < free.len() && !order.before(Comp::at(c), Comp::at(free[place] as usize)) {
+        place += 1;
+    }
+    place
 }
 
-/// Takes a component among the free ones where it is the first of a class that doesn't vanish.
+/// Takes a component among the free ones where it is the first of a class that doesn't vanish: near the place behind the
+/// one that was taken last, which it tells anew.
 fn take_free<R: Rank>(
     free: &mut Vec<u16>,
     classes: &Classes<R>,
     order: &Order<R>,
     c: usize,
-) -> Result<(), NoMemory>
+    near: usize,
+) -> Result<usize, NoMemory>
     requires component { c < R.LEN }
+    requires near { near ≤ length free.old.items }
     requires free { IsFreeUpTo R.LEN (before_at R.R order.now) classes.now free.old.items c }
-    ensures { OnOk result (IsFreeUpTo R.LEN (before_at R.R order.now) classes.now free.new.items (c + 1)) }
+    ensures free { OnOk result (IsFreeUpTo R.LEN (before_at R.R order.now) classes.now free.new.items (c + 1)) }
+    ensures near { IfOk result (λ place. place ≤ length free.new.items) }
 {
     if let Some((first, _)) = classes.of(Comp::at(c)) {
         if first.number() as usize == c {
-            let place = place_for(free, order, c);
+            let place = place_for(free, order, c, near);
             free.insert(place, c as u16)?;
+            return Ok(place + 1);
         }
     }
-    Ok(())
+    Ok(near)
 }
 
 /// The first components of the classes that don't vanish, in the order.
@@ -64,8 +66,9 @@ pub fn free_components<R: Rank>(
     ensures { IfOk result (λ free. IsFreeUpTo R.LEN (before_at R.R order.now) classes.now free.items R.LEN) }
 {
     let mut free = Vec::new(alloc);
+    let mut near = 0;
     for c in 0..R::LEN {
-        take_free(&mut free, classes, order, c)?;
+        near = take_free(&mut free, classes, order, c, near)?;
     }
     Ok(free)
 }

@@ -17,7 +17,7 @@ pub use eliminating::eliminate;
 pub use forms::{Form, Term};
 pub use memory::{NoMemory, SolveFault};
 pub use solving::solve;
-pub use writing::{append_to, name_bytes, push_factor, write_term};
+pub use writing::{append_to, name_bytes, push_factor, unit_sign, write_term};
 
 #[cfg(test)]
 mod tests;

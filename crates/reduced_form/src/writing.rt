@@ -123,7 +123,7 @@ pub fn write_term(text: &[u8], place: usize, out: &mut Vec<u8>) -> Result<(), No
 }
 
 /// The sign of a factor that is 1 or -1, and none for others.
-fn unit_sign(factor: &Frac) -> Option<Sign>
+pub fn unit_sign(factor: &Frac) -> Option<Sign>
     ensures { IfSome result (λ s. factor.now ≡ unit_fraction s) }
 {
     if factor.den() != 1 {

@@ -3,13 +3,20 @@ use Rattle.tensor_rank.specs.Orders.{before_at}
 use Rattle.reduced_form.specs.Forms.{free_at}
 use Rattle.reduced_form.proofs.free.place_for.Given as goal
 
-abbrev pub invariant-loop-low : goal.invariant-loop-low
-invariant-loop-low g l = record {
-  ordered : l.low ≤ l.high;
-  within : l.high ≤ length l.free;
-  after : (k : ℕ) → l.high ≤ k → k < length l.free → before_at g.R.Rank.R l.order l.c (free_at l.free k) ≡ true;
-  before : (k : ℕ) → k + 1 ≡ l.low → before_at g.R.Rank.R l.order l.c (free_at l.free k) ≡ false;
+abbrev pub invariant-loop-place : goal.invariant-loop-place
+invariant-loop-place g l = record {
+  within : l.place ≤ l.near;
+  after : l.place < l.near → before_at g.R.Rank.R l.order l.c (free_at l.free l.place) ≡ true;
 }
 
-abbrev pub decreases-loop-low : goal.decreases-loop-low
-decreases-loop-low g l = l.high - l.low
+abbrev pub decreases-loop-place : goal.decreases-loop-place
+decreases-loop-place g l = l.place
+
+abbrev pub invariant-loop-place-2 : goal.invariant-loop-place-2
+invariant-loop-place-2 g l = record {
+  within : l.place ≤ length l.free;
+  before : (k : ℕ) → k + 1 ≡ l.place → before_at g.R.Rank.R l.order l.c (free_at l.free k) ≡ false;
+}
+
+abbrev pub decreases-loop-place-2 : goal.decreases-loop-place-2
+decreases-loop-place-2 g l = length l.free - l.place

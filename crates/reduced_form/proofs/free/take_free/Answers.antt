@@ -7,8 +7,8 @@ use Rattle.reduced_form.specs.Forms.{IsFreeUpTo, free_at}
 use Rattle.reduced_form.proofs.FreeLaws.{class_some, free_inserted}
 use Rattle.reduced_form.proofs.free.take_free.Goals as goal
 
-pub returns-in_ok-insert : goal.returns-in_ok-insert
-returns-in_ok-insert g c =
+pub returns-then-number-c-clause-free : goal.returns-then-number-c-clause-free
+returns-then-number-c-clause-free g c =
     let n = g.R.Rank.LEN in
     let before = before_at g.R.Rank.R c.args.order.now in
     let free : List ℕ = c.args.free.now.items in
