@@ -1,27 +1,33 @@
 -- The texts of entries.
 --   lines_listed    the lines of all entries, by their numbers
 --   entry_found, entry_absent    whether an entry is among the free ones
+--   marks_done      the marks of all free entries
 --   sum_grown, sum_done    a sum, term by term
---   free_line, sum_line    the line of an entry
-use Rattle.std.proofs.Common.{◌≡◌, ℕ, zero, suc, ◌+◌, ◌<◌, ◌≤◌, Bool, true, false, List, [], ◌∷◌, ◌++◌, map, length, get_or, refl, ap, sym, ◌∙◌, subst, arith}
+--   unit_text       a term with the factor 1 or -1
+--   free_line, sum_line, zero_line    the line of an entry
+use Rattle.std.proofs.Common.{◌≡◌, ℕ, zero, suc, ◌+◌, ◌<◌, ◌≤◌, Bool, true, false, List, [], ◌∷◌, ◌++◌, map, length, get_or, inl, inr, refl, ap, sym, ◌∙◌, subst, arith}
 use Rattle.std.specs.List.{flat_map}
 use Rattle.std.specs.Prelude.{if◌then◌else◌, codes, take}
+use Rattle.std.proofs.lemmas.Bool.{cases_Bool}
 use Rattle.std.proofs.lemmas.Grind.{flat_map-append}
 use Rattle.std.proofs.lemmas.List.{append_assoc, append-nil, length-map, take_all}
+use Rattle.tensor_defs.specs.declared.Sign.{Sign}
+use Rattle.tensor_defs.specs.declared.Sign.TheVariants.{Plus, Minus}
 use Rattle.tensor_defs.specs.Lists.{Each, same_numbers_in}
+use Rattle.tensor_defs.specs.Number.{Fraction}
 use Rattle.tensor_defs.specs.Voigt.{VoigtEntry, entries}
 use Rattle.text_defs.specs.AnswerTexts.{entry_line, entry_name, has_entry, named, rational, row_text}
 use Rattle.text_defs.specs.NumberTexts.{NamedTerm, sum_text, term_text}
 use Rattle.reduced_form.specs.declared.forms.Term.{Term}
-use Rattle.reduced_form.specs.Forms.{row_at, term_of}
+use Rattle.reduced_form.specs.Forms.{row_at, term_of, unit_fraction}
 use Rattle.reduced_form.specs.Texts.{lines_upto, placed, sum_from}
-use Rattle.reduced_form.proofs.TextLaws.{sum_whole}
+use Rattle.reduced_form.proofs.TextLaws.{IsMarkedUpTo, signed_name, sum_whole}
 use Rattle.list_laws.proofs.Tests.{same_numbers_own, same_numbers_told}
 use Rattle.text_laws.proofs.Joins.{equation_joined, free_joined}
 use Rattle.voigt_table.specs.declared.entries.Blocks.{Blocks}
 use Rattle.voigt_table.specs.Blocks.{entry_at, entry_count, entry_number, sizes_of}
 use Rattle.voigt_table.specs.Tables.{IsVoigtValue, VoigtValue, voigt_of}
-use Rattle.voigt_table.specs.Texts.{named_entries}
+use Rattle.voigt_table.specs.Texts.{AreFreeMarks, named_entries}
 use Rattle.voigt_table.proofs.EntryLaws.{entries_listed, firsts, number_told}
 
 -- ---- lines of entries by their numbers
@@ -91,6 +97,30 @@ pub entry_absent : (b : Blocks) (free : List ℕ) (n : ℕ) → n < entry_count 
 entry_absent b free n l below away =
     absent (entry_at (sizes_of b)) (entry_number (sizes_of b)) (entry_count (sizes_of b)) (number_told b) free n l below away
 
+-- ---- marks
+pub marks_done : (b : Blocks) (v : VoigtValue) (marks : List Bool) → v.sizes ≡ sizes_of b →
+    ((k : ℕ) → k < length v.free → get_or v.free k 0 < entry_count v.sizes) → IsMarkedUpTo 36 v.free (length v.free) marks → AreFreeMarks v marks
+marks_done b v marks sizes below m = record {
+  len = m.len;
+  is = λ n l. elim (cases_Bool (has_entry (map (entry_at v.sizes) v.free) (entry_at v.sizes n))) as (λ _. get_or marks n false ≡ has_entry (map (entry_at v.sizes) v.free) (entry_at v.sizes n)) [
+    | inl has ↦ elim (cases_Bool (get_or marks n false)) as (λ _. get_or marks n false ≡ has_entry (map (entry_at v.sizes) v.free) (entry_at v.sizes n)) [
+      | inl marked ↦ marked ∙ sym has
+      | inr bare ↦ bare ∙ sym (absent_in n l (λ k h e. true_is_false (sym (m.own k h) ∙ ap (λ d. get_or marks d false) e ∙ bare)))
+    ]
+    | inr none ↦ m.other n (λ k h e. true_is_false (sym (entry_found (entry_at v.sizes) v.free n k h e) ∙ none)) ∙ sym none
+  ];
+}
+  where
+    true_is_false : true ≡ false → ⊥
+    true_is_false e = cc
+
+    absent_in : (n : ℕ) → n < entry_count v.sizes → ((k : ℕ) → k < length v.free → get_or v.free k 0 ≡ n → ⊥) →
+        has_entry (map (entry_at v.sizes) v.free) (entry_at v.sizes n) ≡ false
+    absent_in n l away =
+        subst (λ (ss : List ℕ). n < entry_count ss → ((k : ℕ) → k < length v.free → get_or v.free k 0 < entry_count ss) →
+        has_entry (map (entry_at ss) v.free) (entry_at ss n) ≡ false) (sym sizes)
+        (λ inside under. entry_absent b v.free n inside under away) l below
+
 -- ---- sums
 abbrev text_of : NamedTerm → List ℕ
 text_of t = term_text t.factor t.name
@@ -125,6 +155,11 @@ pub sum_done : (f : Term → NamedTerm) (row : List Term) (p : ℕ) → 0 < leng
 sum_done f row p some end =
     ap (λ xs. sum_from 0 (map f xs)) (take_all p row end)
     ∙ sum_whole (map f row) (subst (λ n. 0 < n) (sym (length-map row f)) some)
+
+-- a term with the factor 1 or -1
+pub unit_text : (x : Fraction) (s : Sign) (name : List ℕ) → x ≡ unit_fraction s → term_text (rational x) name ≡ signed_name s name
+unit_text x Plus name e = ap (λ y. term_text (rational y) name) e
+unit_text x Minus name e = ap (λ y. term_text (rational y) name) e
 
 -- ---- lines
 name_read : (h : ℕ → List ℕ) (g : VoigtEntry → List ℕ) (at : ℕ → VoigtEntry) (free : List ℕ) → ((n : ℕ) → g (at n) ≡ h n) → (k : ℕ) →
@@ -170,3 +205,14 @@ sum_line b v n old one two three new name sizes below whole free is a p d e =
     ∙ equation_joined old the_name (sum_text (named_entries v (row_at v.rows n)))
     ∙ ap (λ ts. old ++ row_text false the_name ts) (sym (terms_named b v n sizes below (whole.named n below)))
     ∙ ap (λ t. old ++ row_text t the_name (named (map (entry_name v.weights) (voigt_of v).free) ((voigt_of v).terms (entry_at v.sizes n)))) (sym free)
+
+pub zero_line : (b : Blocks) (v : VoigtValue) (n : ℕ) (old one new : List ℕ) → v.sizes ≡ sizes_of b → n < entry_count v.sizes →
+    IsVoigtValue v → has_entry (voigt_of v).free (entry_at v.sizes n) ≡ false → row_at v.rows n ≡ [] →
+    one ≡ old ++ entry_name v.weights (entry_at v.sizes n) → new ≡ one ++ (32 ∷ 61 ∷ 32 ∷ 48 ∷ 10 ∷ []) →
+    new ≡ old ++ entry_line v.weights (voigt_of v) (entry_at v.sizes n)
+zero_line b v n old one new sizes below whole free none is a =
+    let two : List ℕ = one ++ (32 ∷ 61 ∷ 32 ∷ []) in
+    let pieces : one ++ (32 ∷ 61 ∷ 32 ∷ 48 ∷ 10 ∷ []) ≡ (two ++ 48 ∷ []) ++ 10 ∷ [] =
+    sym (append_assoc two (48 ∷ []) (10 ∷ []) ∙ append_assoc one (32 ∷ 61 ∷ 32 ∷ []) (48 ∷ 10 ∷ [])) in
+    sum_line b v n old one two (two ++ 48 ∷ []) new (entry_name v.weights (entry_at v.sizes n)) sizes below whole free refl is refl
+    (ap (λ (ts : List Term). two ++ sum_text (named_entries v ts)) (sym none)) (a ∙ pieces)

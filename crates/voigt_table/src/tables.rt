@@ -1,6 +1,5 @@
-ghost use Rattle.std.specs.Prelude.{◌≡◌, ◌<◌, get_or, length, map};
+ghost use Rattle.std.specs.Prelude.{◌≡◌, ◌<◌, get_or, length};
 ghost use Rattle.reduced_form.specs.Forms.{row_at};
-ghost use Rattle.text_defs.specs.AnswerTexts.{has_entry};
 ghost use Rattle.voigt_table.specs.Blocks.{entry_at, entry_count, numbers_of};
 
 use crate::entries::Blocks;
@@ -61,18 +60,5 @@ impl VoigtTable {
         ensures { result.now ≡ row_at self.now.rows number }
     {
         self.rows[number].as_slice()
-    }
-
-    /// Whether the entry of a number is free.
-    pub(crate) fn is_free(&self, number: usize) -> bool
-        requires { number < entry_count self.now.sizes }
-        ensures { result ≡ has_entry (map (entry_at self.now.sizes) self.now.free) (entry_at self.now.sizes number) }
-    {
-        for place in 0..self.free.len() {
-            if self.free[place] as usize == number {
-                return true;
-            }
-        }
-        false
     }
 }

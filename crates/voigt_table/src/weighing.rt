@@ -108,10 +108,10 @@ fn free_entries<R: Rank>(alloc: Global, form: &Form<R>, blocks: Blocks) -> Resul
     ensures below { IfOk result (λ v. (k : ℕ) → k < length v.items → slice_index v.items k < entry_count (sizes_of blocks)) }
     ensures entries { IfOk result (λ v. (k : ℕ) → k < length v.items → entry_of_place (sizes_of blocks) v.items k ≡ block_numbers (sizes_of blocks) (index_of R.R (free_at form.now.free k))) }
 {
-    let mut free = Vec::new(alloc);
+    let mut free = Vec::with_capacity(alloc, form.free_count())?;
     for place in 0..form.free_count() {
         let component = form.free_at(place).number() as usize;
-        free.push(blocks.entry_of(component) as u8)?;
+        free.push_reserved(blocks.entry_of(component) as u8);
     }
     Ok(free)
 }
@@ -132,14 +132,13 @@ fn weighted_rows<R: Rank>(
     ensures rows { IfOk result (λ v. (k : ℕ) → k < entry_count (sizes_of blocks) → AreWeightedTerms weights (entry_of_place (sizes_of blocks) free.now) (entry_at (sizes_of blocks) k) (entry_terms (sizes_of blocks) form.now k) (row_at (map (λ row. row.items) v.items) k)) }
     ensures grows { IfErr result (λ e. e ≡ SolveFault.TooLarge → (k : ℕ) × (k < entry_count (sizes_of blocks)) × WeighsTooMuch weights (entry_of_place (sizes_of blocks) free.now) (entry_at (sizes_of blocks) k) (entry_terms (sizes_of blocks) form.now k)) }
 {
-    let mut rows = Vec::new(alloc);
+    let Ok(mut rows) = Vec::with_capacity(alloc, blocks.entry_count()) else {
+        return Err(SolveFault::NoMemory);
+    };
     for number in 0..blocks.entry_count() {
         let terms = form.row(Comp::at(blocks.component(number)));
         let row = weighted_row(alloc, terms, &blocks.entry(number), free, blocks, weights)?;
-        match rows.push(row) {
-            Ok(()) => {}
-            Err(_) => return Err(SolveFault::NoMemory),
-        }
+        rows.push_reserved(row);
     }
     Ok(rows)
 }

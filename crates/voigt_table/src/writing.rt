@@ -1,23 +1,23 @@
 //! The lines of a Voigt table.
-ghost use Rattle.std.specs.Prelude.{◌≡◌, ◌∷◌, [], ◌++◌, ◌<◌, ◌≤◌, OnErr, OnOk, length, vec_capacity};
+ghost use Rattle.std.specs.Prelude.{◌≡◌, ◌∷◌, [], ◌++◌, ◌<◌, ◌≤◌, OnErr, OnOk, length, take, vec_capacity};
 ghost use Rattle.std.specs.List.{flat_map};
 ghost use Rattle.tensor_defs.specs.Lists.{Each};
 ghost use Rattle.tensor_defs.specs.Voigt.{entries};
 ghost use Rattle.text_defs.specs.AnswerTexts.{entry_line, entry_name, rational, weights_word};
 ghost use Rattle.text_defs.specs.NumberTexts.{sum_text, term_text};
-ghost use Rattle.reduced_form.specs.Texts.{IsLonger};
+ghost use Rattle.reduced_form.specs.Texts.{IsLonger, placed};
 ghost use Rattle.voigt_table.specs.Blocks.{entry_at, entry_count, numbers_of};
 ghost use Rattle.voigt_table.specs.Tables.{voigt_of};
-ghost use Rattle.voigt_table.specs.Texts.{free_name, named_entries};
+ghost use Rattle.voigt_table.specs.Texts.{AreFreeMarks, entry_text, free_name, named_entries};
 
 use crate::entry::Entry;
 use crate::memory::NoMemory;
 use crate::tables::VoigtTable;
 use exact_frac::append;
-use reduced_form::{Term, append_to, push_factor, write_term};
+use reduced_form::{Term, append_to, push_factor, unit_sign, write_term};
 use smallvec::SmallVec;
 use std::alloc::Global;
-use tensor_defs::Weights;
+use tensor_defs::{Sign, Weights};
 
 /// The letter of an entry's name.
 fn letter(weights: Weights) -> u8
@@ -29,18 +29,28 @@ fn letter(weights: Weights) -> u8
     }
 }
 
-/// The name of an entry: c or s, and its block numbers.
-fn name_of(alloc: Global, weights: Weights, entry: &Entry) -> SmallVec<u8, 8>
-    ensures name { result.items ≡ entry_name weights (numbers_of entry.now) }
-    ensures short { length result.items ≤ 3 }
+/// The name of an entry, c or s and its block numbers, and how many of the bytes are the name.
+fn name_bytes(weights: Weights, entry: &Entry) -> ([u8; 3], usize)
+    ensures name { take result.1 result.0 ≡ entry_name weights (numbers_of entry.now) }
+    ensures short { result.1 ≤ 3 }
 {
-    let mut name = SmallVec::new(alloc);
-    name.push_reserved(letter(weights));
-    if let Some(first) = entry.first {
-        name.push_reserved(48 + first);
+    let letter = letter(weights);
+    let last = 48 + entry.last;
+    match entry.first {
+        Some(first) => ([letter, 48 + first, last], 3),
+        None => ([letter, last, 0], 2),
     }
-    name.push_reserved(48 + entry.last);
-    name
+}
+
+/// Appends the name of an entry.
+fn write_name(weights: Weights, entry: &Entry, out: &mut Vec<u8>) -> Result<(), NoMemory>
+    ensures ok { OnOk result (out.new.items ≡ out.old.items ++ entry_name weights (numbers_of entry.now)) }
+    ensures longer { IsLonger out.old.items out.new.items }
+    ensures capacity { vec_capacity out.old ≤ vec_capacity out.new }
+{
+    let (name, len) = name_bytes(weights, entry);
+    append_to(out, &name[..len])?;
+    Ok(())
 }
 
 /// The text of a term: its factor and the name of its free entry.
@@ -51,8 +61,39 @@ fn term_of(alloc: Global, table: &VoigtTable, term: &Term) -> SmallVec<u8, 64>
     let mut text = SmallVec::new(alloc);
     push_factor(&mut text, alloc, &term.factor);
     let entry = table.free_entry(term.free as usize);
-    append(&mut text, name_of(alloc, table.weights, &entry).as_slice());
+    let (name, len) = name_bytes(table.weights, &entry);
+    append(&mut text, &name[..len]);
     text
+}
+
+/// Appends a term of a table at a place of a sum.
+fn write_term_of(
+    table: &VoigtTable,
+    term: &Term,
+    place: usize,
+    out: &mut Vec<u8>,
+) -> Result<(), NoMemory>
+    requires { term.now.free < length table.now.free }
+    ensures ok { OnOk result (out.new.items ≡ out.old.items ++ placed place (entry_text table.now term.now)) }
+    ensures longer { IsLonger out.old.items out.new.items }
+    ensures capacity { vec_capacity out.old ≤ vec_capacity out.new }
+{
+    match unit_sign(&term.factor) {
+        Some(Sign::Plus) => {
+            let entry = table.free_entry(term.free as usize);
+            let (name, len) = name_bytes(table.weights, &entry);
+            write_term(&name[..len], place, out)?;
+        }
+        Some(Sign::Minus) => {
+            append_to(out, b"-")?;
+            write_name(table.weights, &table.free_entry(term.free as usize), out)?;
+        }
+        None => {
+            let text = term_of(*table.free.allocator(), table, term);
+            write_term(text.as_slice(), place, out)?;
+        }
+    }
+    Ok(())
 }
 
 /// Appends the sum of a row: 0 where it has no term.
@@ -66,29 +107,48 @@ fn write_sum(table: &VoigtTable, row: &[Term], out: &mut Vec<u8>) -> Result<(), 
         append_to(out, b"0")?;
         return Ok(());
     }
-    let alloc = *table.free.allocator();
     for place in 0..row.len() {
-        let text = term_of(alloc, table, &row[place]);
-        write_term(text.as_slice(), place, out)?;
+        write_term_of(table, &row[place], place, out)?;
     }
     Ok(())
 }
 
+/// For each number below 36 whether its entry is free.
+fn free_marks(table: &VoigtTable) -> [bool; 36]
+    ensures { AreFreeMarks table.now result }
+{
+    let mut marks = [false; 36];
+    for place in 0..table.free.len() {
+        marks[table.free[place] as usize] = true;
+    }
+    marks
+}
+
 /// Appends the line of the entry of a number.
-fn write_line(table: &VoigtTable, number: usize, out: &mut Vec<u8>) -> Result<(), NoMemory>
-    requires { number < entry_count table.now.sizes }
+fn write_line(
+    table: &VoigtTable,
+    marks: &[bool],
+    number: usize,
+    out: &mut Vec<u8>,
+) -> Result<(), NoMemory>
+    requires number { number < entry_count table.now.sizes }
+    requires marks { AreFreeMarks table.now marks.now }
     ensures ok { OnOk result (out.new.items ≡ out.old.items ++ entry_line table.now.weights (voigt_of table.now) (entry_at table.now.sizes number)) }
     ensures longer { IsLonger out.old.items out.new.items }
     ensures capacity { vec_capacity out.old ≤ vec_capacity out.new }
 {
-    let name = name_of(*table.free.allocator(), table.weights, &table.entry(number));
-    append_to(out, name.as_slice())?;
-    if table.is_free(number) {
+    write_name(table.weights, &table.entry(number), out)?;
+    if marks[number] {
         append_to(out, b" free\n")?;
         return Ok(());
     }
+    let row = table.row(number);
+    if row.is_empty() {
+        append_to(out, b" = 0\n")?;
+        return Ok(());
+    }
     append_to(out, b" = ")?;
-    write_sum(table, table.row(number), out)?;
+    write_sum(table, row, out)?;
     append_to(out, b"\n")?;
     Ok(())
 }
@@ -99,8 +159,9 @@ fn write_lines(table: &VoigtTable, out: &mut Vec<u8>) -> Result<(), NoMemory>
     ensures longer { IsLonger out.old.items out.new.items }
     ensures capacity { vec_capacity out.old ≤ vec_capacity out.new }
 {
+    let marks = free_marks(table);
     for number in 0..table.blocks.entry_count() {
-        write_line(table, number, out)?;
+        write_line(table, &marks, number, out)?;
     }
     Ok(())
 }

@@ -52,9 +52,9 @@ loop-number-preserved g c =
     subst (λ (ts : List Term). AreWeightedTerms w frees (entry_at bs k) ts c.in_ok-row.row.items) row
     (subst (λ (e : VoigtEntry). AreWeightedTerms w frees e c.row-terms.result.now c.in_ok-row.row.items) c.entry.ensures c.in_ok-row.ensures.ok) in
     record {
-      len = omega (arith, c.in-Ok.ensures.len, c.loop-number.invariant.len);
+      len = omega (arith, c.push_reserved.ensures.len, c.loop-number.invariant.len);
       rows = rows_pushed (λ row. row.items) (λ i us. AreWeightedTerms w frees (entry_at bs i) (entry_terms bs f i) us)
-          c.loop-number.rows.items c.push.new.self.items c.in_ok-row.row c.in-Ok.ensures.items c.loop-number.invariant.rows
+          c.loop-number.rows.items c.push_reserved.new.self.items c.in_ok-row.row c.push_reserved.ensures.items c.loop-number.invariant.rows
           (subst (λ (i : ℕ). AreWeightedTerms w frees (entry_at bs i) (entry_terms bs f i) c.in_ok-row.row.items)
           (sym c.loop-number.invariant.len) here);
     }

@@ -1,4 +1,4 @@
-use Rattle.std.proofs.Common.{◌≡◌, ◌++◌, ℕ, List, false, ap, sym, ◌∙◌, subst}
+use Rattle.std.proofs.Common.{◌≡◌, ◌++◌, ℕ, List, false, ap, refl, sym, ◌∙◌, subst}
 use Rattle.text_defs.specs.AnswerTexts.{entry_name, has_entry}
 use Rattle.text_defs.specs.NumberTexts.{sum_text}
 use Rattle.reduced_form.specs.declared.forms.Term.{Term}
@@ -17,11 +17,12 @@ returns-clause-ok c =
     let sizes : v.sizes ≡ sizes_of b = ap (λ x. x.sizes) (sym c.table.view_is) in
     let weights : c.table.inside.weights ≡ v.weights = ap (λ x. x.weights) c.table.view_is in
     let whole : IsVoigtValue v = subst (λ (x : VoigtValue). IsVoigtValue x) c.table.view_is c.table.invariant in
-    let name : c.as_slice.result.now ≡ entry_name v.weights (entry_at v.sizes n) =
-    c.as_slice.ensures ∙ c.name_of-name.ensures.name ∙ (λ i. entry_name (weights i) (c.entry.ensures i)) in
-    let free : has_entry (voigt_of v).free (entry_at v.sizes n) ≡ false = sym c.is_free.ensures ∙ c.if-is_free.false in
+    let name : c.write_name.new.out.items ≡ c.args.out.now.items ++ entry_name v.weights (entry_at v.sizes n) =
+    c.in_ok-write_name.ensures.ok ∙ (λ i. c.args.out.now.items ++ entry_name (weights i) (c.entry.ensures i)) in
+    let free : has_entry (voigt_of v).free (entry_at v.sizes n) ≡ false =
+    sym (c.requires.marks.is n c.requires.number) ∙ c.if-marks-number.false in
     let kept : c.write_sum.new.out.items ≡ c.append_to-2.new.out.items ++ sum_text (named_entries v (row_at v.rows n)) =
-    c.in_ok-write_sum.ensures.ok ∙ ap (λ (ts : List Term). c.append_to-2.new.out.items ++ sum_text (named_entries v ts)) c.row.ensures in
-    sum_line b v n c.args.out.now.items c.append_to.new.out.items c.append_to-2.new.out.items c.write_sum.new.out.items
-    c.append_to-3.new.out.items c.as_slice.result.now sizes c.requires whole free name c.in_ok-append_to.ensures.ok
+    c.in_ok-write_sum.ensures.ok ∙ ap (λ (ts : List Term). c.append_to-2.new.out.items ++ sum_text (named_entries v ts)) c.row-row.ensures in
+    sum_line b v n c.args.out.now.items c.write_name.new.out.items c.append_to-2.new.out.items c.write_sum.new.out.items
+    c.append_to-3.new.out.items (entry_name v.weights (entry_at v.sizes n)) sizes c.requires.number whole free refl name
     c.in_ok-append_to-3.ensures.ok kept c.in_ok-append_to-4.ensures.ok

@@ -1,4 +1,4 @@
-use Rattle.std.proofs.Common.{◌<◌, ◌≤◌, arith, rules, length, ap, ◌∙◌}
+use Rattle.std.proofs.Common.{◌<◌, ◌≤◌, arith, rules, length, ap, ◌∙◌, refl}
 use Rattle.std.specs.Prelude.{◌++◌}
 use Rattle.voigt_table.specs.Texts.{named_entry}
 use Rattle.voigt_table.proofs.TextLaws.{sum_done, sum_grown}
@@ -9,9 +9,8 @@ loop-place-preserved c = record {
   items =
       let inside : c.loop-place.place < length c.args.row.now = search rules in
       sum_grown (named_entry c.args.table.now) c.args.row.now c.loop-place.place c.index-row-place.result c.args.out.now.items
-      c.as_slice.result.now c.loop-place.out.items _ inside c.index-row-place.is
-      (c.as_slice.ensures ∙ c.term_of-text.ensures) c.loop-place.invariant.items c.in_ok-write_term.ensures.ok;
-  capacity = omega (arith, c.loop-place.invariant.capacity, c.in_ok-write_term.ensures.capacity);
+      _ c.loop-place.out.items _ inside c.index-row-place.is refl c.loop-place.invariant.items c.in_ok-write_term_of.ensures.ok;
+  capacity = omega (arith, c.loop-place.invariant.capacity, c.in_ok-write_term_of.ensures.capacity);
 }
 
 pub returns-clause-ok : goal.returns-clause-ok

@@ -1,0 +1,28 @@
+use Rattle.std.proofs.Common.{◌≡◌, ◌≤◌, ℕ, zero, suc, List, false, arith, rules, length, get_or, replicate, refl, ap, sym, ◌∙◌, subst}
+use Rattle.reduced_form.proofs.TextLaws.{IsMarkedUpTo, marks_start}
+use Rattle.voigt_table.specs.Blocks.{sizes_of}
+use Rattle.voigt_table.specs.Tables.{IsVoigtValue, VoigtValue}
+use Rattle.voigt_table.proofs.TextLaws.{marks_done}
+use Rattle.voigt_table.proofs.writing.free_marks.Goals as goal
+
+none_marked : (n k : ℕ) → get_or (replicate n false) k false ≡ false
+none_marked zero k = refl
+none_marked (suc n) zero = refl
+none_marked (suc n) (suc k) = none_marked n k
+
+pub loop-place-init : goal.loop-place-init
+loop-place-init c = record { marks = marks_start 36 c.args.table.now.free (replicate 36 false) refl (none_marked 36) }
+
+pub returns : goal.returns
+returns c =
+    let v : VoigtValue = c.args.table.now in
+    let b = c.table.inside.blocks in
+    let items : List ℕ = c.table.inside.free.items in
+    let sizes : v.sizes ≡ sizes_of b = ap (λ x. x.sizes) (sym c.table.view_is) in
+    let own : items ≡ v.free = ap (λ x. x.free) c.table.view_is in
+    let whole : IsVoigtValue v = subst (λ (x : VoigtValue). IsVoigtValue x) c.table.view_is c.table.invariant in
+    let end : length items ≤ c.loop-place.place = search rules in
+    let within : c.loop-place.place ≤ length items = search rules in
+    let stop : c.loop-place.place ≡ length items = omega (arith, end, within) in
+    marks_done b v c.loop-place.marks sizes whole.below
+    (subst (λ (p : ℕ). IsMarkedUpTo 36 v.free p c.loop-place.marks) (stop ∙ ap length own) c.loop-place.invariant.marks)
