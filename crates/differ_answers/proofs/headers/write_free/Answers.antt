@@ -1,4 +1,4 @@
-use Rattle.std.proofs.Common.{◌<◌, ◌≤◌, ◌++◌, List, ℕ, length, ap, ◌∙◌, arith}
+use Rattle.std.proofs.Common.{◌<◌, ◌≤◌, ◌+◌, ◌++◌, List, ℕ, length, take, ap, ◌∙◌, arith}
 use Rattle.tensor_defs.specs.Tensor.{index_of}
 use Rattle.text_defs.specs.AnswerTexts.{component_name}
 use Rattle.differ_answers.proofs.TextLaws.{names_done, names_grown}
@@ -16,7 +16,7 @@ loop-place-preserved g c =
       items = names_grown r f k c.args.out.now.items c.loop-place.out.items one c.append_to-in-loop-place-2.new.out.items inside
           c.loop-place.invariant.items
           (c.in_ok-append_to-2.ensures.ok ∙ ap (λ (l : List ℕ). c.loop-place.out.items ++ l) c.gap.ensures)
-          (c.in_ok-append_to-3.ensures.ok ∙ ap (λ (l : List ℕ). one ++ l) (c.as_slice-in-loop-place.ensures ∙ c.name_of.ensures.name
+          (c.in_ok-append_to-3.ensures.ok ∙ ap (λ (l : List ℕ). one ++ l) (ap (λ (m : ℕ). take (m + 1) c.name_bytes-name.result) c.R.ensures ∙ c.name_bytes-name.ensures
           ∙ ap (λ (n : ℕ). component_name (index_of r n)) c.free_at.ensures));
       capacity = omega (arith, c.loop-place.invariant.capacity, c.in_ok-append_to-2.ensures.capacity, c.in_ok-append_to-3.ensures.capacity);
     }
