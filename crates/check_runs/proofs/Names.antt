@@ -16,6 +16,7 @@ use Rattle.tensor_defs.specs.declared.Sign.TheVariants.{Plus}
 use Rattle.tensor_defs.specs.Operation.{Axis, x1, x2, x3}
 use Rattle.tensor_defs.specs.Tensor.{Index, axis_place, digit, component_number, index_of}
 use Rattle.tensor_laws.proofs.ComponentNumbers.{length-index_of}
+use Rattle.tensor_rank.proofs.ExchangeLaws.{power_small}
 use Rattle.tensor_rank.specs.IndexLaws.{component_below_at, index_number_at, number_index_at, place_below}
 use Rattle.text_defs.specs.AnswerTexts.{component_name, digits_text}
 use Rattle.text_defs.specs.Languages.{IsFaulty}
@@ -280,18 +281,8 @@ pub record HasRead (word : List ℕ) (k number : ℕ) : Type 0 where
 pub below_read : (word : List ℕ) (k number : ℕ) → HasRead word k number → number < 3 ^ k
 below_read word k number h = subst (λ (n : ℕ). n < 3 ^ k) h.number_is (component_below_at k h.index h.size)
 
-small_power : (k : ℕ) → k ≤ 6 → 3 ^ k ≤ 729
-small_power zero h = omega arith
-small_power (suc zero) h = omega arith
-small_power (suc (suc zero)) h = omega arith
-small_power (suc (suc (suc zero))) h = omega arith
-small_power (suc (suc (suc (suc zero)))) h = omega arith
-small_power (suc (suc (suc (suc (suc zero))))) h = omega arith
-small_power (suc (suc (suc (suc (suc (suc zero)))))) h = omega arith
-small_power (suc (suc (suc (suc (suc (suc (suc k))))))) h = absurd (omega arith)
-
 pub small_read : (word : List ℕ) (k number : ℕ) → HasRead word k number → k ≤ 6 → number < 729
-small_read word k number h few = omega (arith, below_read word k number h, small_power k few)
+small_read word k number h few = omega (arith, below_read word k number h, power_small k few)
 
 pub small_axis : (d : ℕ) (i : Axis) → d ≡ axis_place i → d < 3
 small_axis d i e = omega (arith, e, place_below i)
