@@ -34,16 +34,20 @@ fn expect(
 }
 
 /// The summary of no lines.
-const NONE: &str = "lines 0\nform 0\ngroup 0\nvoigt 0\nstates 0\npairs 0\ndiffer 0\nsame 0\nlong 0\nsyntax 0\nprimes 0\nrank 0\nshape 0\nnotsub 0\ntoolarge 0\nfree 0\nend 0\n";
+const NONE: &str =
+    "lines 0\nform 0\ngroup 0\nvoigt 0\nstates 0\npairs 0\ndiffer 0\nsame 0\nlong 0\nsyntax 0\nprimes 0\nrank 0\nshape 0\nnotsub 0\ntoolarge 0\nfree 0\nend 0\n";
 
 /// The lines are `form m-31' [V2]`, `same 21' 6'mm' V` and `group 2/m`.
-const THREE: &str = "lines 3\nform 1\ngroup 1\nvoigt 0\nstates 0\npairs 0\ndiffer 0\nsame 1\nlong 0\nsyntax 0\nprimes 0\nrank 0\nshape 0\nnotsub 0\ntoolarge 0\nfree 1\nend 3\n";
+const THREE: &str =
+    "lines 3\nform 1\ngroup 1\nvoigt 0\nstates 0\npairs 0\ndiffer 0\nsame 1\nlong 0\nsyntax 0\nprimes 0\nrank 0\nshape 0\nnotsub 0\ntoolarge 0\nfree 1\nend 3\n";
 
 /// The line is `group m'`.
-const LAST: &str = "lines 1\nform 0\ngroup 1\nvoigt 0\nstates 0\npairs 0\ndiffer 0\nsame 0\nlong 0\nsyntax 0\nprimes 0\nrank 0\nshape 0\nnotsub 0\ntoolarge 0\nfree 0\nend 1\n";
+const LAST: &str =
+    "lines 1\nform 0\ngroup 1\nvoigt 0\nstates 0\npairs 0\ndiffer 0\nsame 0\nlong 0\nsyntax 0\nprimes 0\nrank 0\nshape 0\nnotsub 0\ntoolarge 0\nfree 0\nend 1\n";
 
 /// Lines of every kind, some of them refused; as counted from the answers of another program.
-const MANY: &str = "lines 300\nform 46\ngroup 33\nvoigt 21\nstates 4\npairs 1\ndiffer 4\nsame 45\nlong 0\nsyntax 0\nprimes 0\nrank 0\nshape 18\nnotsub 128\ntoolarge 0\nfree 149\nend 300\n";
+const MANY: &str =
+    "lines 300\nform 46\ngroup 33\nvoigt 21\nstates 4\npairs 1\ndiffer 4\nsame 45\nlong 0\nsyntax 0\nprimes 0\nrank 0\nshape 18\nnotsub 128\ntoolarge 0\nfree 149\nend 300\n";
 
 #[test]
 fn summaries(rt: HostRuntime) -> Result<(), Fail> {
