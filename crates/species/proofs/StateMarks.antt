@@ -18,7 +18,7 @@ use Rattle.magnetic_groups.specs.Sets.{In, IsGroup}
 use Rattle.list_laws.proofs.Members.{each_found}
 use Rattle.tensor_laws.proofs.Associativity.{product_assoc}
 use Rattle.tensor_laws.proofs.Products.{product_unique}
-use Rattle.answer_laws.proofs.Groups.{one_times, times_one}
+use Rattle.tensor_laws.proofs.Groups.{one_times, times_one}
 use Rattle.tensor_rank.specs.IndexLaws.{component_below_at}
 use Rattle.coset_states.specs.Numbering.{Cosets, TellsState}
 use Rattle.reduced_form.specs.Forms.{form_table}

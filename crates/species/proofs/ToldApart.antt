@@ -15,7 +15,7 @@ use Rattle.tensor_defs.specs.Tensor.{Agree, Tensor, act}
 use Rattle.tensor_laws.proofs.ActionLaws.{acts_in_turn, identity_acts_lem}
 use Rattle.tensor_laws.proofs.Agreeing.{act-agree, same_state}
 use Rattle.tensor_laws.proofs.Associativity.{product_assoc}
-use Rattle.answer_laws.proofs.Groups.{one_times, times_one}
+use Rattle.tensor_laws.proofs.Groups.{one_times, times_one}
 use Rattle.species.specs.Species.{AreToldApart, InState, IsNumber}
 use Rattle.species.specs.Told.{Carries}
 

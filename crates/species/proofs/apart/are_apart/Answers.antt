@@ -16,7 +16,7 @@ product-between-requires c =
 
 pub bounds-carried-seen : goal.bounds-carried-seen
 bounds-carried-seen c =
-    let t = c.in-Some.ensures in
+    let t = c.in-Some.ensures.state in
     let below = slice_get_within c.args.states.now.reps (c.in-Some.seen - 1) t.0 t.1.1 in
     let sized = c.requires.sized in
     omega (arith, below, sized)
@@ -28,7 +28,7 @@ returns-in-Some c = λ j told.
     let jf = c.count-count.ensures.groups.1 in
     seen_apart j s c.args.carried.now c.args.k c.args.l c.representative.result c.representative-2.result c.inverse-back.result
     c.product-between.result ig jf c.representative.ensures c.representative-2.ensures c.inverse-back.ensures.after
-    c.inverse-back.ensures.ahead c.product-between.ensures.is told c.in-Some.seen c.in-Some.ensures
+    c.inverse-back.ensures.ahead c.product-between.ensures.is told c.in-Some.seen c.in-Some.ensures.state
 
 pub returns-in-None : goal.returns-in-None
 returns-in-None c = λ j told.
@@ -38,5 +38,5 @@ returns-in-None c = λ j told.
     let in_r = rep_within s.whole s.sub s.reps states c.args.k c.representative.result c.representative.ensures in
     let in_s = rep_within s.whole s.sub s.reps states c.args.l c.representative-2.result c.representative-2.ensures in
     let in_b = inverse_within s.whole ig c.representative.result c.inverse-back.result in_r c.inverse-back.ensures.after in
-    absurd (c.in-None.ensures (group_product s.whole c.inverse-back.result c.representative-2.result c.product-between.result ig
+    absurd (c.in-None.ensures.state (group_product s.whole c.inverse-back.result c.representative-2.result c.product-between.result ig
     in_b in_s c.product-between.ensures.is))
