@@ -1,6 +1,7 @@
 //! Names of groups.
 use super::*;
 use group_symbol::read_group;
+use magnetic_groups::build_group;
 use std::test::Fail;
 
 #[test]
