@@ -7,6 +7,7 @@ mod lines;
 mod outcome;
 mod refusals;
 mod top;
+mod waiting;
 
 pub use lines::{AnswersLines, LineEnd, is_heading_line, refuse, refuse_long};
 pub use outcome::Outcome;
