@@ -1,18 +1,25 @@
-use Rattle.std.proofs.Common.{◌++◌, [], ◌∷◌, sym, ◌∙◌, ap}
-use Rattle.magnetic_groups.specs.Marks.{marked_below}
+use Rattle.std.proofs.Common.{◌≡◌, ◌++◌, [], ◌∷◌, sym, ◌∙◌, ap, arith}
+use Rattle.op_matrix.specs.Table.{place}
+use Rattle.op_matrix.proofs.Facts.{place_of_nth}
+use Rattle.magnetic_groups.specs.Marks.{mark_at, marked_below}
 use Rattle.magnetic_groups.proofs.Marked.{marked_next, marked_past}
 use Rattle.magnetic_groups.proofs.closing.list_marked.Goals as goal
-use Rattle.magnetic_groups.proofs.closing.list_marked.Goals.{then-marks-place+in_ok-push, else-marks-place}
+use Rattle.magnetic_groups.proofs.closing.list_marked.Goals.{then-has+in_ok-push, else-has}
 
 pub loop-place-init : goal.loop-place-init
 unfolding marked_below
 loop-place-init c = c.in_ok-elements.ensures.items
 
 pub loop-place-preserved : goal.loop-place-preserved
-loop-place-preserved c = elim c.if-marks-place.branch [
-  | then-marks-place+in_ok-push w ↦ ap (λ v. v.items) w.elements-is ∙ w.in_ok-push.ensures.items ∙
-      (λ i. c.loop-place.invariant i ++ w.at_place.ensures i ∷ []) ∙
-      sym (marked_next c.loop-place.place c.args.marks.now w.if-marks-place.true)
-  | else-marks-place w ↦ ap (λ v. v.items) w.elements-is ∙ c.loop-place.invariant ∙
-      sym (marked_past c.loop-place.place c.args.marks.now w.if-marks-place.false)
-]
+loop-place-preserved c =
+    let at : place c.at_place-operation.result ≡ c.loop-place.place =
+    ap place c.at_place-operation.ensures ∙ place_of_nth c.loop-place.place (omega arith) in
+    let told : c.has.result ≡ mark_at c.args.marks.now c.loop-place.place =
+    c.has.ensures.is ∙ ap (mark_at c.args.marks.now) at in
+    elim c.if-has.branch [
+      | then-has+in_ok-push w ↦ ap (λ v. v.items) w.elements-is ∙ w.in_ok-push.ensures.items ∙
+          (λ i. c.loop-place.invariant i ++ c.at_place-operation.ensures i ∷ []) ∙
+          sym (marked_next c.loop-place.place c.args.marks.now (sym told ∙ w.if-has.true))
+      | else-has w ↦ ap (λ v. v.items) w.elements-is ∙ c.loop-place.invariant ∙
+          sym (marked_past c.loop-place.place c.args.marks.now (sym told ∙ w.if-has.false))
+    ]
