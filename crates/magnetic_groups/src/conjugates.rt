@@ -24,6 +24,6 @@ impl Group {
                 marks.mark(&element);
             }
         }
-        GroupMarks { marks }
+        GroupMarks::new(marks)
     }
 }

@@ -1,6 +1,7 @@
 //! Groups by the marks of their elements alone.
 ghost use Rattle.std.specs.Prelude.{◌≡◌, ◌<◌, ◌↔◌, ℕ, IsTrue, Contains, length};
 ghost use Rattle.std.specs.Int.{bit_at};
+ghost use Rattle.magnetic_groups.specs.Marks.{marked_below};
 ghost use Rattle.magnetic_groups.specs.Sets.{HasForm, In, IsGroup, IsWithin};
 
 use crate::marks::Marks;
@@ -10,7 +11,7 @@ use std::marker::Model;
 /// A group by the marks of its elements.
 #[derive(Drop)]
 pub struct GroupMarks {
-    pub(crate) marks: Marks,
+    marks: Marks,
 }
 
 impl Model for GroupMarks {
@@ -27,6 +28,14 @@ impl Model for GroupMarks {
 }
 
 impl GroupMarks {
+    /// The group of the marked operations.
+    pub fn new(marks: Marks) -> GroupMarks
+        requires { IsGroup (marked_below 128 marks) }
+        ensures { result ≡ marked_below 128 marks }
+    {
+        GroupMarks { marks }
+    }
+
     /// The number of elements.
     pub fn len(&self) -> usize
         ensures is { result ≡ length self.now }

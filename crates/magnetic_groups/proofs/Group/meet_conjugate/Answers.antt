@@ -1,7 +1,11 @@
 use Rattle.std.proofs.Common.{◌+◌, refl, sym, subst, arith}
+use Rattle.tensor_defs.specs.Lists.{IsListing}
+use Rattle.tensor_defs.specs.OperationOrder.{comes_before}
+use Rattle.tensor_defs.specs.States.{InPairGroup}
 use Rattle.op_matrix.specs.Table.{place}
 use Rattle.op_matrix.proofs.Order.{placed}
 use Rattle.magnetic_groups.proofs.Members.{member_framed}
+use Rattle.magnetic_groups.specs.Sets.{In}
 use Rattle.magnetic_groups.proofs.Meeting.{IsMeeting, meeting_none, meeting_skip, meeting_more, met_group, met_listing, inverse_common, half_common, pair_told}
 use Rattle.magnetic_groups.proofs.Group.meet_conjugate.Goals as goal
 use Rattle.magnetic_groups.proofs.Group.meet_conjugate.Goals.{then-has, else-has}
@@ -42,12 +46,13 @@ loop-place-preserved c = λ i f.
           c.at-element.result c.has.result (c.loop-place.invariant i f) c.at-element.ensures.reads told w.if-has.false)
     ]
 
-pub invariant_of-result : goal.invariant_of-result
-invariant_of-result c =
+pub new-requires : goal.new-requires
+new-requires c =
     met_group c.args.self.now c.args.op.now c.len-place-end.ensures.group c.requires c.loop-place.marks
     c.loop-place.place (c.loop-place.invariant c.len-place-end.ensures.group c.requires) (omega arith)
 
 pub returns : goal.returns
 returns c =
-    met_listing c.args.self.now c.args.op.now c.len-place-end.ensures.group c.requires c.loop-place.marks
-    c.loop-place.place (c.loop-place.invariant c.len-place-end.ensures.group c.requires) (omega arith)
+    subst (IsListing comes_before (InPairGroup (In c.args.self.now) c.args.op.now)) (sym c.new.ensures)
+    (met_listing c.args.self.now c.args.op.now c.len-place-end.ensures.group c.requires c.loop-place.marks
+    c.loop-place.place (c.loop-place.invariant c.len-place-end.ensures.group c.requires) (omega arith))
