@@ -1,5 +1,5 @@
 //! The closing of generators: all products of finite lists of them.
-ghost use Rattle.std.specs.Prelude.{◌≡◌, ◌+◌, ◌<◌, ℕ, ◌↔◌, IfOk, length, List, Contains, ◌++◌, ◌∷◌, []};
+ghost use Rattle.std.specs.Prelude.{◌≡◌, ◌+◌, ◌<◌, ◌≤◌, ℕ, ◌↔◌, IfOk, length, List, Contains, ◌++◌, ◌∷◌, []};
 ghost use Rattle.tensor_defs.specs.Operation.{Operation};
 ghost use Rattle.tensor_defs.specs.Lists.{IsListing};
 ghost use Rattle.tensor_defs.specs.OperationOrder.{comes_before};
@@ -66,15 +66,36 @@ pub fn close_marks(generators: &[Op]) -> Marks
     marks
 }
 
+/// Appends the marked operations at some places, where those before are listed.
+fn list_places(
+    marks: &Marks,
+    from: usize,
+    to: usize,
+    elements: &mut Vec<Op>,
+) -> Result<(), AllocError>
+    requires within { to ≤ 128 }
+    requires order { from ≤ to }
+    requires before { elements.old.items ≡ marked_below from marks.now }
+    ensures { IfOk result (λ _. elements.new.items ≡ marked_below to marks.now) }
+{
+    for place in from..to {
+        let operation = Op::at_place(place);
+        if marks.has(&operation) {
+            elements.push(operation)?;
+        }
+    }
+    Ok(())
+}
+
 /// The marked operations, in their order.
 fn list_marked(alloc: Global, marks: &Marks) -> Result<Vec<Op>, AllocError>
     ensures { IfOk result (λ v. v.items ≡ marked_below 128 marks.now) }
 {
     let mut elements = Vec::with_capacity(alloc, marks.count())?;
-    for place in 0..128 {
-        let operation = Op::at_place(place);
-        if marks.has(&operation) {
-            elements.push(operation)?;
+    let matrices = marks.matrices();
+    for matrix in 0..64 {
+        if (matrices >> matrix) & 1 == 1 {
+            list_places(marks, 2 * matrix, 2 * matrix + 2, &mut elements)?;
         }
     }
     Ok(elements)

@@ -1,25 +1,23 @@
-use Rattle.std.proofs.Common.{◌≡◌, ◌++◌, [], ◌∷◌, sym, ◌∙◌, ap, arith}
-use Rattle.op_matrix.specs.Table.{place}
-use Rattle.op_matrix.proofs.Facts.{place_of_nth}
-use Rattle.magnetic_groups.specs.Marks.{mark_at, marked_below}
-use Rattle.magnetic_groups.proofs.Marked.{marked_next, marked_past}
+use Rattle.std.proofs.Common.{◌≡◌, ◌*◌, ◌+◌, sym, ◌∙◌, ap, arith}
+use Rattle.std.proofs.lemmas.Nat.Bits.{shr_and_one}
+use Rattle.magnetic_groups.specs.Marks.{marked_below}
+use Rattle.magnetic_groups.proofs.Marked.{marked_past_both}
 use Rattle.magnetic_groups.proofs.closing.list_marked.Goals as goal
-use Rattle.magnetic_groups.proofs.closing.list_marked.Goals.{then-has+in_ok-push, else-has}
+use Rattle.magnetic_groups.proofs.closing.list_marked.Goals.{then-matrices-matrix-eq1+in_ok-list_places, else-matrices-matrix-eq1}
 
-pub loop-place-init : goal.loop-place-init
+pub loop-matrix-init : goal.loop-matrix-init
 unfolding marked_below
-loop-place-init c = c.in_ok-elements.ensures.items
+loop-matrix-init c = c.in_ok-elements.ensures.items
 
-pub loop-place-preserved : goal.loop-place-preserved
-loop-place-preserved c =
-    let at : place c.at_place-operation.result ≡ c.loop-place.place =
-    ap place c.at_place-operation.ensures ∙ place_of_nth c.loop-place.place (omega arith) in
-    let told : c.has.result ≡ mark_at c.args.marks.now c.loop-place.place =
-    c.has.ensures.is ∙ ap (mark_at c.args.marks.now) at in
-    elim c.if-has.branch [
-      | then-has+in_ok-push w ↦ ap (λ v. v.items) w.elements-is ∙ w.in_ok-push.ensures.items ∙
-          (λ i. c.loop-place.invariant i ++ c.at_place-operation.ensures i ∷ []) ∙
-          sym (marked_next c.loop-place.place c.args.marks.now (sym told ∙ w.if-has.true))
-      | else-has w ↦ ap (λ v. v.items) w.elements-is ∙ c.loop-place.invariant ∙
-          sym (marked_past c.loop-place.place c.args.marks.now (sym told ∙ w.if-has.false))
+pub loop-matrix-preserved : goal.loop-matrix-preserved
+loop-matrix-preserved c =
+    let n = c.loop-matrix.matrix in
+    let e : 2 * n + 2 ≡ 2 * (n + 1) = omega arith in
+    elim c.if-matrices-matrix-eq1.branch [
+      | then-matrices-matrix-eq1+in_ok-list_places w ↦
+          ap (λ v. v.items) w.elements-is ∙ w.in_ok-list_places.ensures ∙ ap (λ k. marked_below k c.args.marks.now) e
+      | else-matrices-matrix-eq1 w ↦
+          ap (λ v. v.items) w.elements-is ∙ c.loop-matrix.invariant
+          ∙ sym (marked_past_both n c.args.marks.now
+          (λ h. w.if-matrices-matrix-eq1.false (shr_and_one c.matrices-matrices.result n ∙ (c.matrices-matrices.ensures n c.loop-matrix-test.true).1 h)))
     ]
