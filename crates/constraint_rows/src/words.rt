@@ -161,8 +161,8 @@ fn chosen_rows<R: Rank>(
     requires sound { AreSound R.LEN (before_at R.R order.now) classes.now }
     ensures rows { IfOk result (λ v. AreWordRows R.R (before_at R.R order.now) classes.now (filter (is_chosen rotations) (words R.R)) v.items) }
 {
-    let mut rows = Vec::new(alloc);
-    let mut terms = Vec::new(alloc);
+    let mut rows = Vec::with_capacity(alloc, R::LEN)?;
+    let mut terms = Vec::with_capacity(alloc, 64)?;
     let mut parts = Vec::new(alloc);
     for number in 0..R::LEN {
         add_word(

@@ -74,7 +74,7 @@ fn difference(a: &Entry, factor: &Frac, b: &Entry) -> Result<Option<Entry>, Elim
 }
 
 /// No entries, and room for this many.
-fn room_for(alloc: Global, count: usize) -> Result<Vec<Entry>, EliminateFault>
+pub fn room_for(alloc: Global, count: usize) -> Result<Vec<Entry>, EliminateFault>
     ensures empty { IfOk result (λ v. v.items ≡ []) }
     ensures full { IfErr result (λ e. e ≡ EliminateFault.NoMemory) }
 {

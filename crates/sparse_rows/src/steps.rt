@@ -8,7 +8,7 @@ ghost use Rattle.sparse_rows.specs.KeptRows.{kept_of, kepts, AreRows, IsFound, I
 
 use crate::entry::{EliminateFault, Entry, KeptRow};
 use crate::marks::{is_marked, mark_all};
-use crate::merge::{put, subtract};
+use crate::merge::{put, room_for, subtract};
 use exact_frac::Frac;
 use std::alloc::Global;
 
@@ -74,8 +74,11 @@ pub fn reduce_row(
     ensures reduced { IfOk result (λ v. IsReducedRow (kepts kept.now) (coeff row.now) v.items) }
     ensures grows { IfErr result (λ e. e ≡ EliminateFault.TooLarge → ReducingGrows (kepts kept.now) (coeff row.now)) }
 {
+    if row.is_empty() {
+        return Ok(Vec::new(alloc));
+    }
     let mut left = copied(alloc, row)?;
-    let mut marks = [false; 1024];
+    let mut marks = [false; 512];
     mark_all(&mut marks, row);
     for k in kept {
         if is_marked(&marks, k.pivot) {
@@ -108,7 +111,7 @@ pub fn scale(alloc: Global, row: &[Entry]) -> Result<KeptRow, EliminateFault>
     ensures grows { IfErr result (λ e. e ≡ EliminateFault.TooLarge → CannotScale (coeff row.now)) }
 {
     let last = row[row.len() - 1];
-    let mut entries = Vec::new(alloc);
+    let mut entries = room_for(alloc, row.len())?;
     for entry in row {
         let value = quotient(&entry.value, &last.value)?;
         put(

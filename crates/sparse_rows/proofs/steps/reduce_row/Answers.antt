@@ -1,12 +1,18 @@
-use Rattle.std.proofs.Common.{◌≡◌, ◌∙◌, ◌<◌, ◌+◌, sym, subst, length, drop, false, arith}
+use Rattle.std.proofs.Common.{◌≡◌, ◌∙◌, ◌<◌, ◌+◌, ℕ, sym, subst, length, drop, false, arith}
+use Rattle.std.proofs.lemmas.Bool.{eqb-true}
 use Rattle.tensor_defs.specs.Number.{num_zero, value_of}
 use Rattle.sparse_rows.specs.Rows.{coeff, IsRow}
 use Rattle.sparse_rows.specs.Marks.{is_marked}
 use Rattle.sparse_rows.specs.KeptRows.{kept_of, kepts, IsFound}
 use Rattle.sparse_rows.proofs.Marking.{met-less, met-same}
-use Rattle.sparse_rows.proofs.RowSteps.{IsReducing, reducing-at, reducing-skip, reducing-less, difference-same}
+use Rattle.sparse_rows.proofs.RowSteps.{IsReducing, reduced-none, reducing-at, reducing-skip, reducing-less, difference-same}
 use Rattle.sparse_rows.proofs.steps.reduce_row.Goals as goal
 use Rattle.sparse_rows.proofs.steps.reduce_row.Goals.{then-is_marked+in-Some+in_ok-left-2, then-is_marked+in_default, else-is_marked}
+
+pub returns-then-is_empty-clause-reduced : goal.returns-then-is_empty-clause-reduced
+returns-then-is_empty-clause-reduced c =
+    let none : length c.args.row.now ≡ 0 = eqb-true (length c.args.row.now) 0 (sym c.is_empty.ensures ∙ c.if-is_empty.true) in
+    reduced-none (kepts c.args.kept.now) c.args.row.now c.new.result.items none c.new.ensures.items
 
 pub loop-k-preserved : goal.loop-k-preserved
 loop-k-preserved c =
