@@ -37,7 +37,9 @@ pub fn eliminate(alloc: Global, rows: &[Row]) -> Result<Vec<KeptRow>, EliminateF
     ensures rows { IfOk result (λ v. AreRows v.items) }
     ensures grows { IfErr result (λ e. e ≡ EliminateFault.TooLarge → GrowsFrom [] (lines rows.now)) }
 {
-    let mut kept = Vec::new(alloc);
+    let Ok(mut kept) = Vec::with_capacity(alloc, rows.len()) else {
+        return Err(EliminateFault::NoMemory);
+    };
     let mut left = Vec::new(alloc);
     let mut spare = Vec::new(alloc);
     for row in rows {
