@@ -146,7 +146,7 @@ pub reducing-zero : (κs0 : List Kept) (ρ0 : Line) (κs : List Kept) (ρ : Line
 reducing-zero κs0 ρ0 [] ρ s z = s
 reducing-zero κs0 ρ0 (κ ∷ κs) ρ s z = reducing-zero κs0 ρ0 κs ρ (reducing-skip κs0 ρ0 κ κs ρ s (z κ.pivot)) z
 
-pub reduced-none : (κs : List Kept) (xs new : List Entry) → length xs ≡ 0 → new ≡ [] → IsReducedRow κs (coeff xs) new
+pub reduced-none : (κs : List Kept) (xs new : List Entry) → length xs ≡ 0 → new ≡ xs → IsReducedRow κs (coeff xs) new
 reduced-none κs [] new h e =
     let r = reducing-zero κs (coeff []) κs (coeff []) (reducing-start κs (coeff [])) (λ u. refl) in
     subst (IsReducedRow κs (coeff [])) (sym e) (record { is_row = tt; same = r.same; calm = r.then })
