@@ -1,5 +1,6 @@
 pub mod DeterminantLaws
 pub mod FactorLaws
+mod Between
 pub mod IndexPlaces
 pub mod SumLaws
 pub mod Reach

@@ -3,6 +3,7 @@
 #![tactic(auto)]
 
 mod action;
+mod coefficients;
 mod faults;
 mod parts;
 mod products;
@@ -12,6 +13,7 @@ mod tests;
 mod turns;
 
 pub use action::act;
+pub use coefficients::coefficient;
 pub use faults::ActFault;
 pub use parts::{Part, parts_of};
 pub use signs::sign_of;

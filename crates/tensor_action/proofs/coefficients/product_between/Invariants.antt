@@ -1,0 +1,13 @@
+use Rattle.std.proofs.Common.{◌≡◌, ◌^◌, drop}
+use Rattle.tensor_defs.specs.Number.{mul}
+use Rattle.tensor_defs.specs.Tensor.{coefficient, index_of}
+use Rattle.tensor_action.specs.Factors.{IsWithin, product_number}
+use Rattle.tensor_action.proofs.coefficients.product_between.Given as goal
+
+abbrev pub invariant-loop-place : goal.invariant-loop-place
+invariant-loop-place g l =
+    record {
+      within : IsWithin (3 ^ l.place) l.product;
+      value : mul (product_number l.product) (coefficient l.op (drop l.place (index_of g.R.Rank.R l.to)) (drop l.place (index_of g.R.Rank.R l.from)))
+          ≡ coefficient l.op (index_of g.R.Rank.R l.to) (index_of g.R.Rank.R l.from);
+    }
