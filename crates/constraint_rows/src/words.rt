@@ -1,5 +1,5 @@
 //! The even and odd rows of words over z, + and -: a rotation about z multiplies the sum of a word by a unit number.
-ghost use Rattle.std.specs.Prelude.{◌≡◌, ℕ, ◌+◌, ◌*◌, ◌^◌, ◌<◌, ◌≤◌, ◌++◌, [], IfOk, OnOk, ◌==◌, if◌then◌else◌, drop, filter, length, List};
+ghost use Rattle.std.specs.Prelude.{◌≡◌, ℕ, ◌+◌, ◌*◌, ◌^◌, ◌<◌, ◌≤◌, ◌++◌, ◌∷◌, ◌≢◌, [], IfOk, OnOk, ◌==◌, if◌then◌else◌, drop, filter, length, List};
 ghost use Rattle.tensor_defs.specs.Elimination.{AreRepresentatives};
 ghost use Rattle.tensor_defs.specs.Frames.{AllOf, IsFramed, IsPlain};
 ghost use Rattle.tensor_defs.specs.Jahn.{JahnSymbol};
@@ -36,6 +36,32 @@ fn turn_at(digit: u8) -> u8
     if digit == 2 { 1 } else { 3 }
 }
 
+/// Lists a component with its factor.
+fn push_term(terms: &mut Vec<Term>, number: usize, quarters: u8) -> Result<(), NoMemory>
+    requires { number < 65536 }
+    ensures { OnOk result (terms.new.items ≡ terms.old.items ++ (record { component = number; quarters = quarters }) ∷ []) }
+{
+    terms.push(Term {
+        component: number as u16,
+        quarters,
+    })?;
+    Ok(())
+}
+
+/// Lists the components that a last letter gives, by its digit.
+fn list_last(terms: &mut Vec<Term>, digit: u8, number: usize, quarters: u8) -> Result<(), NoMemory>
+    requires number { number < 729 }
+    requires quarters { quarters ≤ 15 }
+    ensures level { digit ≡ 1 → OnOk result (terms.new.items ≡ terms.old.items ++ terms_from (3 * number + 2) quarters []) }
+    ensures other { digit ≢ 1 → OnOk result (terms.new.items ≡ terms.old.items ++ (terms_from (3 * number) quarters [] ++ terms_from (3 * number + 1) (quarters + (if digit == 2 then 1 else 3)) [])) }
+{
+    if digit == 1 {
+        return push_term(terms, 3 * number + 2, quarters);
+    }
+    push_term(terms, 3 * number, quarters)?;
+    push_term(terms, 3 * number + 1, quarters + turn_at(digit))
+}
+
 /// Lists the components whose indices go on by the letters of a word from a place on, after those of a number, whose
 /// factor has this power of i so far.
 fn list_terms<R: Rank>(
@@ -58,6 +84,9 @@ fn list_terms<R: Rank>(
         return Ok(());
     }
     let digit = word.digit(place);
+    if place + 1 == R::R {
+        return list_last(terms, digit, number, quarters);
+    }
     if digit == 1 {
         return list_terms(terms, word, place + 1, 3 * number + 2, quarters);
     }
@@ -161,8 +190,8 @@ fn chosen_rows<R: Rank>(
     requires sound { AreSound R.LEN (before_at R.R order.now) classes.now }
     ensures rows { IfOk result (λ v. AreWordRows R.R (before_at R.R order.now) classes.now (filter (is_chosen rotations) (words R.R)) v.items) }
 {
-    let mut rows = Vec::new(alloc);
-    let mut terms = Vec::new(alloc);
+    let mut rows = Vec::with_capacity(alloc, R::LEN)?;
+    let mut terms = Vec::with_capacity(alloc, 64)?;
     let mut parts = Vec::new(alloc);
     for number in 0..R::LEN {
         add_word(

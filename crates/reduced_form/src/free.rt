@@ -65,7 +65,7 @@ pub fn free_components<R: Rank>(
 ) -> Result<Vec<u16>, NoMemory>
     ensures { IfOk result (λ free. IsFreeUpTo R.LEN (before_at R.R order.now) classes.now free.items R.LEN) }
 {
-    let mut free = Vec::new(alloc);
+    let mut free = Vec::with_capacity(alloc, R::LEN)?;
     let mut near = 0;
     for c in 0..R::LEN {
         near = take_free(&mut free, classes, order, c, near)?;

@@ -9,13 +9,19 @@ use sparse_rows::{Row as SparseRow, WholeEntry, row_of_whole};
 use std::alloc::Global;
 use tensor_rank::Rank;
 
-/// A row of whole numbers as one of fractions, by the places of its components among the unknowns.
-fn sparse_row<R: Rank>(alloc: Global, row: &Row<R>, places: &[u16]) -> Result<SparseRow, NoMemory>
+/// A row of whole numbers as one of fractions, by the places of its components among the unknowns. The entries are
+/// gathered in place of those that a list held.
+fn sparse_row<R: Rank>(
+    alloc: Global,
+    row: &Row<R>,
+    places: &[u16],
+    entries: &mut Vec<WholeEntry>,
+) -> Result<SparseRow, NoMemory>
     requires size { length places.now ≡ R.LEN }
     requires whole { CanPlace R.LEN places.now row.now }
     ensures { IfOk result (IsSparse R.LEN places.now row.now) }
 {
-    let mut entries = Vec::with_capacity(alloc, row.parts().len())?;
+    entries.clear();
     for place in 0..row.parts().len() {
         let (component, number) = row.at(place);
         entries.push(WholeEntry {
@@ -23,7 +29,7 @@ fn sparse_row<R: Rank>(alloc: Global, row: &Row<R>, places: &[u16]) -> Result<Sp
             number,
         })?;
     }
-    let sparse = row_of_whole(alloc, &entries)?;
+    let sparse = row_of_whole(alloc, entries)?;
     Ok(sparse)
 }
 
@@ -38,8 +44,9 @@ pub fn sparse_rows_of<R: Rank>(
     ensures { IfOk result (λ v. AreSparse R.LEN places.now rows.now v.items) }
 {
     let mut sparse = Vec::with_capacity(alloc, rows.len())?;
+    let mut entries = Vec::new(alloc);
     for row in rows {
-        sparse.push(sparse_row(alloc, row, places)?)?;
+        sparse.push(sparse_row(alloc, row, places, &mut entries)?)?;
     }
     Ok(sparse)
 }

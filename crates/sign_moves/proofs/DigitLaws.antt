@@ -2,8 +2,8 @@
 --   step_small    the numbers stay small
 --   spread_more    the steps of one component more
 use Rattle.std.proofs.Common.{◌≡◌, ℕ, ◌+◌, ◌*◌, ◌/◌, ◌%◌, ◌^◌, ◌<◌, ◌≤◌, List, [], ◌∷◌, ◌++◌, zero, suc, add-one, length, get_or, arith, ap, sym, ◌∙◌, refl, inl, inr}
-use Rattle.std.proofs.Common.{length-append, lit≤}
-use Rattle.std.proofs.Math.Nat.{pow-succ'}
+use Rattle.std.proofs.Common.{length-append, lit<}
+use Rattle.std.proofs.Math.Nat.{pow-le-pow_right, pow-succ'}
 use Rattle.std.proofs.lemmas.Bool.{cases_lt}
 use Rattle.std.proofs.lemmas.List.{get_or_push, get_or_append_left}
 use Rattle.tensor_defs.specs.declared.Sign.{Sign}
@@ -48,17 +48,12 @@ row_goes_on {parts} {whole} {k} {row} {longer} h s =
           ∙ sym (step_more parts whole k c);
     }
 
-power_small : (k : ℕ) → k < 6 → 3 ^ k ≤ 243
-power_small zero h = lit≤ tt
-power_small (suc zero) h = lit≤ tt
-power_small (suc (suc zero)) h = lit≤ tt
-power_small (suc (suc (suc zero))) h = lit≤ tt
-power_small (suc (suc (suc (suc zero)))) h = lit≤ tt
-power_small (suc (suc (suc (suc (suc zero))))) h = lit≤ tt
-power_small (suc (suc (suc (suc (suc (suc k)))))) h = absurd (omega arith)
-
-pub row_short : {parts : List (List Step)} {whole : Sign} {k : ℕ} {row : List Step} → IsDigitRow parts whole k row → k < 6 → length row ≤ 243
-row_short {parts} {whole} {k} {row} h few = rw h.len (power_small k few)
+pub row_room : {parts : List (List Step)} {whole : Sign} {k : ℕ} {row : List Step} → IsDigitRow parts whole k row → k < length parts →
+    3 * length row ≤ 3 ^ length parts
+row_room {parts} {whole} {k} {row} h below =
+    let more : 3 ^ (k + 1) ≡ 3 * 3 ^ k = rw add-one (pow-succ' 3 k) in
+    let rises : 3 ^ (k + 1) ≤ 3 ^ length parts = pow-le-pow_right (lit< tt) (omega arith) in
+    omega (arith, h.len, more, rises)
 
 pub row_small : {parts : List (List Step)} {whole : Sign} {k : ℕ} {row : List Step} → IsDigitRow parts whole k row → AreParts parts → k < length parts → length parts ≤ 6 →
     (j d : ℕ) → j < length row → d < 3 → (step_at row j).to + (part_at parts k d).to < 65536

@@ -1,5 +1,5 @@
 //! Where a move carries each component, made digit by digit.
-ghost use Rattle.std.specs.Prelude.{◌≡◌, ℕ, ◌+◌, ◌*◌, ◌<◌, ◌≤◌, IfOk, length};
+ghost use Rattle.std.specs.Prelude.{◌≡◌, ℕ, ◌+◌, ◌*◌, ◌^◌, ◌<◌, ◌≤◌, IfOk, length, vec_capacity};
 ghost use Rattle.sign_moves.specs.Digits.{AreParts, IsDigitRow, IsSpread, joined_step};
 ghost use Rattle.sign_moves.specs.Tabling.{step_at};
 
@@ -7,7 +7,24 @@ use crate::memory::NoMemory;
 use crate::signs::times;
 use crate::tabled::Step;
 use std::alloc::Global;
+use std::mem::swap;
 use tensor_defs::Sign;
+
+/// How many components there are of some digits.
+fn row_length(digits: usize) -> usize
+    requires { digits ≤ 6 }
+    ensures { result ≡ 3 ^ digits }
+{
+    match digits {
+        0 => 1,
+        1 => 3,
+        2 => 9,
+        3 => 27,
+        4 => 81,
+        5 => 243,
+        _ => 729,
+    }
+}
 
 /// The part of one digit more: the sum of the numbers, and the product of the signs.
 fn joined_step(step: Step, part: Step) -> Step
@@ -20,20 +37,20 @@ fn joined_step(step: Step, part: Step) -> Step
     }
 }
 
-/// The steps of the components with one index digit more.
-fn spread(alloc: Global, row: &[Step], part: &[Step; 3]) -> Result<Vec<Step>, NoMemory>
-    requires few { length row.now ≤ 243 }
+/// The steps of the components with one index digit more, in place of those that a list held.
+fn spread(row: &[Step], part: &[Step; 3], longer: &mut Vec<Step>)
+    requires room { 3 * length row.now ≤ vec_capacity longer.old }
     requires small { (j d : ℕ) → j < length row.now → d < 3 → (step_at row.now j).to + (step_at part.now d).to < 65536 }
-    ensures { IfOk result (λ longer. IsSpread row.now part.now longer.items) }
+    ensures spread { IsSpread row.now part.now longer.new.items }
+    ensures capacity { vec_capacity longer.new ≡ vec_capacity longer.old }
 {
-    let mut longer = Vec::with_capacity(alloc, 3 * row.len())?;
+    longer.clear();
     for j in 0..row.len() {
         let step = row[j];
         longer.push_reserved(joined_step(step, part[0]));
         longer.push_reserved(joined_step(step, part[1]));
         longer.push_reserved(joined_step(step, part[2]));
     }
-    Ok(longer)
 }
 
 /// The steps of a move that carries each index digit by itself, the first one the most significant: where the parts of
@@ -43,10 +60,13 @@ pub fn digit_row(alloc: Global, parts: &[[Step; 3]], whole: Sign) -> Result<Vec<
     requires small { AreParts parts.now }
     ensures { IfOk result (λ row. IsDigitRow parts.now whole (length parts.now) row.items) }
 {
-    let mut row = Vec::new(alloc);
+    let room = row_length(parts.len());
+    let mut row = Vec::with_capacity(alloc, room)?;
+    let mut longer = Vec::with_capacity(alloc, room)?;
     row.push(Step { to: 0, sign: whole })?;
     for place in 0..parts.len() {
-        row = spread(alloc, &row, &parts[place])?;
+        spread(&row, &parts[place], &mut longer);
+        swap(&mut row, &mut longer);
     }
     Ok(row)
 }

@@ -15,38 +15,38 @@ use Rattle.sparse_rows.proofs.Lines.{minus_none}
 
 -- the entries before place i are marked
 pub record IsMarking (old : List Bool) (row : List Entry) (i : ℕ) (new : List Bool) : Type 0 where
-  pub len : length new ≡ 1024
+  pub len : length new ≡ 512
   pub kept : (u : ℕ) → is_marked new u ≡ false → is_marked old u ≡ false
   pub zero : (u : ℕ) → is_marked new u ≡ false → coeff row u ≡ coeff (drop i row) u
 
-pub marking-start : (old : List Bool) (row : List Entry) → length old ≡ 1024 → IsMarking old row 0 old
+pub marking-start : (old : List Bool) (row : List Entry) → length old ≡ 512 → IsMarking old row 0 old
 marking-start old row h = record { len = h; kept = λ u e. e; zero = λ u e. refl }
 
-module _ (marks : List Bool) (len : length marks ≡ 1024) (v : ℕ) where
-  inside : v % 1024 < length marks
+module _ (marks : List Bool) (len : length marks ≡ 512) (v : ℕ) where
+  inside : v % 512 < length marks
   inside = omega arith
 
-  not_own : (u : ℕ) → is_marked (slice_set marks (v % 1024) true) u ≡ false → u % 1024 ≢ v % 1024
+  not_own : (u : ℕ) → is_marked (slice_set marks (v % 512) true) u ≡ false → u % 512 ≢ v % 512
   not_own u e p =
-      let own : is_marked (slice_set marks (v % 1024) true) u ≡ true = get_or-set_at marks (v % 1024) (u % 1024) true false p inside in
+      let own : is_marked (slice_set marks (v % 512) true) u ≡ true = get_or-set_at marks (v % 512) (u % 512) true false p inside in
       let clash : true ≡ false = sym own ∙ e in
       cc
 
-  before : (u : ℕ) → is_marked (slice_set marks (v % 1024) true) u ≡ false → is_marked marks u ≡ false
-  before u e = sym (get_or-set_other marks (v % 1024) (u % 1024) true false (not_own u e)) ∙ e
+  before : (u : ℕ) → is_marked (slice_set marks (v % 512) true) u ≡ false → is_marked marks u ≡ false
+  before u e = sym (get_or-set_other marks (v % 512) (u % 512) true false (not_own u e)) ∙ e
 
 pub marking-step : (old : List Bool) (row : List Entry) (i : ℕ) (marks : List Bool) (x : Entry) → i < length row → x ≡ get_or row i x → IsMarking old row i marks →
-    IsMarking old row (i + 1) (slice_set marks (x.unknown % 1024) true)
+    IsMarking old row (i + 1) (slice_set marks (x.unknown % 512) true)
 marking-step old row i marks x h e m = record {
-  len = length-set marks (x.unknown % 1024) true ∙ m.len;
+  len = length-set marks (x.unknown % 512) true ∙ m.len;
   kept = λ u f. m.kept u (before marks m.len x.unknown u f);
   zero = λ u f.
       m.zero u (before marks m.len x.unknown u f)
       ∙ (λ j. coeff (drop_head row i x h e j) u)
-      ∙ coeff-tail x (drop (i + 1) row) u (λ p. not_own marks m.len x.unknown u f (ap (λ n. n % 1024) p));
+      ∙ coeff-tail x (drop (i + 1) row) u (λ p. not_own marks m.len x.unknown u f (ap (λ n. n % 512) p));
 }
 
-pub marking-end : (old : List Bool) (row : List Entry) (i : ℕ) (marks : List Bool) → length old ≡ 1024 → length row ≤ i → IsMarking old row i marks → AreMarked old row marks
+pub marking-end : (old : List Bool) (row : List Entry) (i : ℕ) (marks : List Bool) → length old ≡ 512 → length row ≤ i → IsMarking old row i marks → AreMarked old row marks
 marking-end old row i marks long h m = record {
   len = m.len ∙ sym long;
   kept = m.kept;
@@ -55,7 +55,7 @@ marking-end old row i marks long h m = record {
 
 -- a row is 0 at each unknown that isn't marked
 pub record AreMet (marks : List Bool) (row : List Entry) : Type 0 where
-  pub len : length marks ≡ 1024
+  pub len : length marks ≡ 512
   pub zero : (u : ℕ) → is_marked marks u ≡ false → coeff row u ≡ num_zero
 
 pub met-less : (old new new' : List Bool) (row other other' left : List Entry) (f : Number) → new' ≡ new → other ≡ other' → AreMet old row → AreMarked old other new → IsDifference (coeff row) f (coeff other') left → AreMet new' left

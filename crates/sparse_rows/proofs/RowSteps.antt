@@ -1,6 +1,6 @@
 -- The steps, row by row.
 --   found-at, found-entry, IsSplit, middle-below, split-start, split-low ..    looking for an unknown
---   IsReducing, reducing-start, line_path, reducing-skip, reducing-step    reducing
+--   IsReducing, reducing-start, line_path, reducing-skip, reducing-zero, reduced-none, reducing-step    reducing
 --   scaling-nonzero, IsScaling, scaling-start, scaling-step, scaling-grows, scaling-same ..    scaling
 --   IsClearing, clearing-start, clearing-step, append-none, kepts-snoc, rows-snoc ..    clearing
 --   clearing-at, kept-none, cleared-copy, cleared-less, cleared-grows, reducing-at ..    at places of lists
@@ -140,6 +140,17 @@ reducing-skip κs0 ρ0 κ κs ρ s z =
       ];
       from = λ g. s.from (inr (subst (ReducingGrows κs) (sym e) g));
     }
+
+-- a row that is 0 stays as it is
+pub reducing-zero : (κs0 : List Kept) (ρ0 : Line) (κs : List Kept) (ρ : Line) → IsReducing κs0 ρ0 κs ρ → ((u : ℕ) → ρ u ≡ num_zero) → IsReducing κs0 ρ0 [] ρ
+reducing-zero κs0 ρ0 [] ρ s z = s
+reducing-zero κs0 ρ0 (κ ∷ κs) ρ s z = reducing-zero κs0 ρ0 κs ρ (reducing-skip κs0 ρ0 κ κs ρ s (z κ.pivot)) z
+
+pub reduced-none : (κs : List Kept) (xs new : List Entry) → length xs ≡ 0 → new ≡ xs → IsReducedRow κs (coeff xs) new
+reduced-none κs [] new h e =
+    let r = reducing-zero κs (coeff []) κs (coeff []) (reducing-start κs (coeff [])) (λ u. refl) in
+    subst (IsReducedRow κs (coeff [])) (sym e) (record { is_row = tt; same = r.same; calm = r.then })
+reduced-none κs (x ∷ xs) new h e = absurd (omega arith)
 
 pub reducing-step : (κs0 : List Kept) (ρ0 : Line) (κ : Kept) (κs : List Kept) (ρ σ : Line) → IsReducing κs0 ρ0 (κ ∷ κs) ρ → σ ≡ less ρ κ → (LessGrows ρ κ → ⊥) → IsReducing κs0 ρ0 κs σ
 reducing-step κs0 ρ0 κ κs ρ σ s e calm = record {

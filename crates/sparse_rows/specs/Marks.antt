@@ -7,7 +7,7 @@ use Rattle.sparse_rows.specs.Rows.{coeff}
 use Rattle.sparse_rows.specs.declared.entry.Entry.{Entry}
 
 abbrev pub is_marked : List Bool → ℕ → Bool
-is_marked marks u = get_or marks (u % 1024) false
+is_marked marks u = get_or marks (u % 512) false
 
 pub record AreMarked (old : List Bool) (row : List Entry) (new : List Bool) : Type 0 where
   pub len : length new ≡ length old

@@ -9,7 +9,12 @@ use crate::steps::{clear_all, put_row, reduce_row, scale};
 use std::alloc::Global;
 
 /// The kept rows with one more, made of a row that isn't 0.
-fn keep(alloc: Global, kept: Vec<KeptRow>, left: &[Entry]) -> Result<Vec<KeptRow>, EliminateFault>
+fn keep(
+    alloc: Global,
+    kept: Vec<KeptRow>,
+    left: &[Entry],
+    spare: &mut Vec<Entry>,
+) -> Result<Vec<KeptRow>, EliminateFault>
     requires kept { AreRows kept.items }
     requires row { IsRow left.now }
     requires some { 0 < length left.now }
@@ -18,7 +23,7 @@ fn keep(alloc: Global, kept: Vec<KeptRow>, left: &[Entry]) -> Result<Vec<KeptRow
 {
     let new = scale(alloc, left)?;
     let mut next = kept;
-    clear_all(alloc, &mut next, &new)?;
+    clear_all(spare, &mut next, &new)?;
     put_row(&mut next, new)?;
     Ok(next)
 }
@@ -32,11 +37,15 @@ pub fn eliminate(alloc: Global, rows: &[Row]) -> Result<Vec<KeptRow>, EliminateF
     ensures rows { IfOk result (λ v. AreRows v.items) }
     ensures grows { IfErr result (λ e. e ≡ EliminateFault.TooLarge → GrowsFrom [] (lines rows.now)) }
 {
-    let mut kept = Vec::new(alloc);
+    let Ok(mut kept) = Vec::with_capacity(alloc, rows.len()) else {
+        return Err(EliminateFault::NoMemory);
+    };
+    let mut left = Vec::new(alloc);
+    let mut spare = Vec::new(alloc);
     for row in rows {
-        let left = reduce_row(alloc, &row.entries, &kept)?;
+        reduce_row(&mut left, &mut spare, &row.entries, &kept)?;
         if left.len() > 0 {
-            kept = keep(alloc, kept, &left)?;
+            kept = keep(alloc, kept, &left, &mut spare)?;
         }
     }
     Ok(kept)

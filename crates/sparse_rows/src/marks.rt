@@ -7,18 +7,18 @@ use crate::entry::Entry;
 
 /// Marks each unknown of a row.
 pub fn mark_all(marks: &mut [bool], row: &[Entry])
-    requires { length marks.old ≡ 1024 }
+    requires { length marks.old ≡ 512 }
     ensures { AreMarked marks.old row.now marks.new }
 {
     for entry in row {
-        marks[entry.unknown % 1024] = true;
+        marks[entry.unknown % 512] = true;
     }
 }
 
 /// Whether an unknown is marked, or one with the same remainder.
 pub fn is_marked(marks: &[bool], unknown: usize) -> bool
-    requires { length marks.now ≡ 1024 }
+    requires { length marks.now ≡ 512 }
     ensures { result ≡ is_marked marks.now unknown }
 {
-    marks[unknown % 1024]
+    marks[unknown % 512]
 }

@@ -74,7 +74,7 @@ fn difference(a: &Entry, factor: &Frac, b: &Entry) -> Result<Option<Entry>, Elim
 }
 
 /// No entries, and room for this many.
-fn room_for(alloc: Global, count: usize) -> Result<Vec<Entry>, EliminateFault>
+pub fn room_for(alloc: Global, count: usize) -> Result<Vec<Entry>, EliminateFault>
     ensures empty { IfOk result (λ v. v.items ≡ []) }
     ensures full { IfErr result (λ e. e ≡ EliminateFault.NoMemory) }
 {
@@ -84,46 +84,46 @@ fn room_for(alloc: Global, count: usize) -> Result<Vec<Entry>, EliminateFault>
     }
 }
 
-/// The row minus the factor times the other row.
+/// The row minus the factor times the other row, in place of what a list held.
 pub fn subtract(
-    alloc: Global,
+    out: &mut Vec<Entry>,
     row: &[Entry],
     factor: &Frac,
     other: &[Entry],
-) -> Result<Vec<Entry>, EliminateFault>
+) -> Result<(), EliminateFault>
     requires row { IsRow row.now }
     requires other { IsRow other.now }
     requires factor { value_of factor.now ≢ num_zero }
-    ensures difference { IfOk result (λ v. IsDifference (coeff row.now) (value_of factor.now) (coeff other.now) v.items) }
+    ensures difference { OnOk result (IsDifference (coeff row.now) (value_of factor.now) (coeff other.now) out.new.items) }
     ensures grows { IfErr result (λ e. e ≡ EliminateFault.TooLarge → TimesGrows (coeff row.now) (value_of factor.now) (coeff other.now)) }
 {
-    let mut out = room_for(alloc, row.len() + other.len())?;
+    out.clear();
     let mut i = 0;
     let mut j = 0;
     while i < row.len() || j < other.len() {
         if j == other.len() {
-            put(&mut out, row[i])?;
+            put(out, row[i])?;
             i += 1;
         } else if i == row.len() {
-            put(&mut out, negative(factor, &other[j])?)?;
+            put(out, negative(factor, &other[j])?)?;
             j += 1;
         } else {
             let a = row[i];
             let b = other[j];
             if a.unknown < b.unknown {
-                put(&mut out, a)?;
+                put(out, a)?;
                 i += 1;
             } else if b.unknown < a.unknown {
-                put(&mut out, negative(factor, &b)?)?;
+                put(out, negative(factor, &b)?)?;
                 j += 1;
             } else {
                 if let Some(entry) = difference(&a, factor, &b)? {
-                    put(&mut out, entry)?;
+                    put(out, entry)?;
                 }
                 i += 1;
                 j += 1;
             }
         }
     }
-    Ok(out)
+    Ok(())
 }

@@ -13,7 +13,9 @@ fn negated(alloc: Global, entries: &[Entry]) -> Result<Vec<Entry>, NoMemory>
     requires { IsRow entries.now }
     ensures { IfOk result (λ v. IsNegated entries.now v.items) }
 {
-    let mut out = Vec::new(alloc);
+    let Ok(mut out) = Vec::with_capacity(alloc, entries.len()) else {
+        return Err(NoMemory);
+    };
     for entry in entries {
         let value = entry.value.neg();
         match out.push(Entry {
@@ -43,7 +45,9 @@ pub fn pivot_sums(alloc: Global, kept: &[KeptRow]) -> Result<Vec<PivotSum>, NoMe
     requires reduced { IsReduced (kepts kept.now) }
     ensures { IfOk result (λ v. AreSolved (kepts kept.now) (kepts kept.now) v.items) }
 {
-    let mut sums = Vec::new(alloc);
+    let Ok(mut sums) = Vec::with_capacity(alloc, kept.len()) else {
+        return Err(NoMemory);
+    };
     for row in kept {
         let terms = pivot_sum(alloc, row)?;
         match sums.push(PivotSum {

@@ -8,9 +8,10 @@ ghost use Rattle.sparse_rows.specs.KeptRows.{kept_of, kepts, AreRows, IsFound, I
 
 use crate::entry::{EliminateFault, Entry, KeptRow};
 use crate::marks::{is_marked, mark_all};
-use crate::merge::{put, subtract};
+use crate::merge::{put, room_for, subtract};
 use exact_frac::Frac;
 use std::alloc::Global;
+use std::mem::swap;
 
 /// Whether a row is 0 at an unknown, as its first and its last unknown tell.
 fn is_outside(row: &[Entry], at: usize) -> bool
@@ -52,40 +53,47 @@ pub fn find(row: &[Entry], at: usize) -> Option<Frac>
     None
 }
 
-/// A copy.
-pub fn copied(alloc: Global, row: &[Entry]) -> Result<Vec<Entry>, EliminateFault>
-    ensures copied { IfOk result (λ v. v.items ≡ row.now) }
+/// A copy in place of what a list held.
+pub fn copy_to(out: &mut Vec<Entry>, row: &[Entry]) -> Result<(), EliminateFault>
+    ensures copied { OnOk result (out.new.items ≡ row.now) }
     ensures full { IfErr result (λ e. e ≡ EliminateFault.NoMemory) }
 {
-    match Vec::from_slice(alloc, row) {
-        Ok(copy) => Ok(copy),
+    out.clear();
+    match out.extend_from_slice(row) {
+        Ok(()) => Ok(()),
         Err(_) => Err(EliminateFault::NoMemory),
     }
 }
 
-/// The row, less what each kept row takes away. Only those are looked at whose pivot the row may have.
+/// The row, less what each kept row takes away, in place of what a list held. Only those are looked at whose pivot the
+/// row may have.
 pub fn reduce_row(
-    alloc: Global,
+    left: &mut Vec<Entry>,
+    spare: &mut Vec<Entry>,
     row: &[Entry],
     kept: &[KeptRow],
-) -> Result<Vec<Entry>, EliminateFault>
+) -> Result<(), EliminateFault>
     requires row { IsRow row.now }
     requires kept { AreRows kept.now }
-    ensures reduced { IfOk result (λ v. IsReducedRow (kepts kept.now) (coeff row.now) v.items) }
+    ensures reduced { OnOk result (IsReducedRow (kepts kept.now) (coeff row.now) left.new.items) }
     ensures grows { IfErr result (λ e. e ≡ EliminateFault.TooLarge → ReducingGrows (kepts kept.now) (coeff row.now)) }
 {
-    let mut left = copied(alloc, row)?;
-    let mut marks = [false; 1024];
+    copy_to(left, row)?;
+    if row.is_empty() {
+        return Ok(());
+    }
+    let mut marks = [false; 512];
     mark_all(&mut marks, row);
     for k in kept {
         if is_marked(&marks, k.pivot) {
-            if let Some(factor) = find(&left, k.pivot) {
-                left = subtract(alloc, &left, &factor, &k.entries)?;
+            if let Some(factor) = find(left, k.pivot) {
+                subtract(spare, left, &factor, &k.entries)?;
+                swap(left, spare);
                 mark_all(&mut marks, &k.entries);
             }
         }
     }
-    Ok(left)
+    Ok(())
 }
 
 /// The quotient.
@@ -108,7 +116,7 @@ pub fn scale(alloc: Global, row: &[Entry]) -> Result<KeptRow, EliminateFault>
     ensures grows { IfErr result (λ e. e ≡ EliminateFault.TooLarge → CannotScale (coeff row.now)) }
 {
     let last = row[row.len() - 1];
-    let mut entries = Vec::new(alloc);
+    let mut entries = room_for(alloc, row.len())?;
     for entry in row {
         let value = quotient(&entry.value, &last.value)?;
         put(
@@ -126,14 +134,15 @@ pub fn scale(alloc: Global, row: &[Entry]) -> Result<KeptRow, EliminateFault>
 }
 
 /// A kept row, less what the new row takes away.
-fn clear_one(alloc: Global, row: &mut KeptRow, new: &KeptRow) -> Result<(), EliminateFault>
+fn clear_one(spare: &mut Vec<Entry>, row: &mut KeptRow, new: &KeptRow) -> Result<(), EliminateFault>
     requires row { IsRow row.old.entries.items }
     requires new { IsRow new.now.entries.items }
     ensures cleared { OnOk result (IsClearedRow (kept_of new.now) (kept_of row.old) row.new) }
     ensures grows { IfErr result (λ e. e ≡ EliminateFault.TooLarge → LessGrows (coeff row.old.entries.items) (kept_of new.now)) }
 {
     if let Some(factor) = find(&row.entries, new.pivot) {
-        row.entries = subtract(alloc, &row.entries, &factor, &new.entries)?;
+        subtract(spare, &row.entries, &factor, &new.entries)?;
+        swap(&mut row.entries, spare);
     }
     Ok(())
 }
@@ -151,7 +160,7 @@ pub fn put_row(out: &mut Vec<KeptRow>, row: KeptRow) -> Result<(), EliminateFaul
 
 /// All kept rows, less what the new row takes away. After an error some may be changed.
 pub fn clear_all(
-    alloc: Global,
+    spare: &mut Vec<Entry>,
     kept: &mut Vec<KeptRow>,
     new: &KeptRow,
 ) -> Result<(), EliminateFault>
@@ -162,7 +171,7 @@ pub fn clear_all(
 {
     for place in 0..kept.len() {
         let row = &mut kept[place];
-        clear_one(alloc, row, new)?;
+        clear_one(spare, row, new)?;
     }
     Ok(())
 }

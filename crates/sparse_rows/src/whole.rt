@@ -18,7 +18,9 @@ pub fn row_of_whole(alloc: Global, entries: &[WholeEntry]) -> Result<Row, NoMemo
     requires { AreWhole entries.now }
     ensures { IfOk result (λ r. IsWholeRow entries.now r.entries.items) }
 {
-    let mut taken = Vec::new(alloc);
+    let Ok(mut taken) = Vec::with_capacity(alloc, entries.len()) else {
+        return Err(NoMemory);
+    };
     for entry in entries {
         let WholeEntry { unknown, number } = *entry;
         let value = Frac::of_whole(number);

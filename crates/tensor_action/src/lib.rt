@@ -3,8 +3,8 @@
 #![tactic(auto)]
 
 mod action;
-mod coefficients;
 mod faults;
+mod parts;
 mod products;
 mod signs;
 #[cfg(test)]
@@ -12,7 +12,7 @@ mod tests;
 mod turns;
 
 pub use action::act;
-pub use coefficients::coefficient;
 pub use faults::ActFault;
+pub use parts::{Part, parts_of};
 pub use signs::sign_of;
 pub use turns::products_act_in_turn;

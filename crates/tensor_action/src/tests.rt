@@ -8,7 +8,7 @@ use root3_num::Root3;
 use std::alloc::Global;
 use std::process::Abort;
 use std::test::Fail;
-use tensor_rank::{Comp, Flags, R1, R2, Rank, Sign};
+use tensor_rank::{Flags, R1, R2, Sign};
 
 const POLAR: Flags = Flags {
     axial: false,
@@ -26,23 +26,6 @@ fn number(a: i64, b: i64) -> Root3
 /// An operation on its axis; the identity where there is none.
 fn operation(kind: OpKind, primed: bool) -> Op {
     generator(kind, Direction::Z, primed).unwrap_or(Op::identity())
-}
-
-/// The text of the coefficient between two components, by their numbers.
-fn coefficient_is<R: Rank>(
-    alloc: Global,
-    op: &Op,
-    flags: Flags,
-    to: u16,
-    from: u16,
-    want: &str,
-) -> bool {
-    match (Comp::<R>::from_number(to), Comp::<R>::from_number(from)) {
-        (Some(to), Some(from)) => {
-            coefficient(op, flags, to, from).text(alloc).as_slice() == want.as_bytes()
-        }
-        _ => false,
-    }
 }
 
 fn expect_texts(rt: &impl Abort, alloc: Global, numbers: &[Root3], want: &[&str]) {
@@ -70,7 +53,7 @@ fn signs(rt: HostRuntime) {
 
 // R11·R12 = (-1/2)(-√3/2), R22·R21 = (-1/2)(√3/2), R11·R11 and R21·R21, with the sign of a primed magnetic one
 #[test]
-fn coefficients_of_the_threefold_rotation(rt: HostRuntime) {
+fn coefficients_of_the_threefold_rotation(rt: HostRuntime) -> Result<(), Fail> {
     let turn = operation(OpKind::Three, true);
     let magnetic = Flags {
         axial: true,
@@ -84,11 +67,12 @@ fn coefficients_of_the_threefold_rotation(rt: HostRuntime) {
         (4, 0, magnetic, "-3/4"),
         (0, 2, POLAR, "0"),
     ] {
-        assert!(rt;
-            coefficient_is::<R2>(rt.alloc(), &turn, flags, to, from, want),
-            "{want}"
-        );
+        let mut unit = [number(0, 0); 9];
+        unit[from] = number(1, 0);
+        let carried = act::<R2>(rt.alloc(), &turn, flags, &unit)?;
+        expect_texts(&rt, rt.alloc(), &carried[to..to + 1], &[want]);
     }
+    Ok(())
 }
 
 #[test]

@@ -1,19 +1,20 @@
 -- Orders by the index digits and by blocks.
 --   numbers_tell, index_order_at    index order is the order of component numbers
---   rest_none, blocks_next, blocks_before, rest_same, rest_differs    block order, block by block
+--   blocks_next, blocks_before    blocks from a place on
+--   spell_next, spell_below, below_sixth, spelled_order    block order is the order of what block numbers spell
 --   front_one, front_two, pair_same, pair_other, by_index    the number of one block
-use Rattle.std.proofs.Common.{◌≡◌, ◌≢◌, ℕ, zero, suc, ◌+◌, ◌-◌, ◌*◌, ◌^◌, ◌<◌, ◌≤◌, true, false, List, [], ◌∷◌, ◌++◌, length, get_or, drop, drop-cons, add-one, map, refl, ap, sym, ◌∙◌, arith, subst, inl, inr}
+use Rattle.std.proofs.Common.{◌≡◌, ◌≢◌, ℕ, zero, suc, ◌+◌, ◌-◌, ◌*◌, ◌^◌, ◌<◌, ◌≤◌, Bool, true, false, lit<, List, [], ◌∷◌, ◌++◌, length, get_or, drop, drop-cons, add-one, map, refl, ap, sym, ◌∙◌, arith, subst, inl, inr}
 use Rattle.std.specs.Prelude.{nat_lt}
 use Rattle.std.proofs.lemmas.Bool.{cases_lt, lt-ltb, le-ltb}
 use Rattle.std.proofs.lemmas.Bool.Decides.{nat_tests}
 use Rattle.std.proofs.lemmas.List.{length-drop, drop_more, drop-drop}
-use Rattle.tensor_laws.proofs.BlockOrder.{lexicographic_same}
-use Rattle.tensor_defs.specs.Lists.{lexicographic}
+use Rattle.std.proofs.Math.Nat.{pow-suc, pow-le-pow_right}
+use Rattle.tensor_defs.specs.Lists.{Each, lexicographic}
 use Rattle.tensor_defs.specs.Operation.{x1, x2, x3, Axis}
-use Rattle.tensor_defs.specs.Orders.{index_before, block_numbers, pair_number}
+use Rattle.tensor_defs.specs.Orders.{index_before, block_before, block_numbers, pair_number}
 use Rattle.tensor_defs.specs.Tensor.{Index, digit, component_number, index_of}
 use Rattle.tensor_laws.proofs.ComponentNumbers.{number_below, length-index_of, number-index_of}
-use Rattle.tensor_rank.specs.Orders.{Ordering, ByIndex, ByBlocks, IsBlock, AreBlocks, total, front_number, pair_of, rest_before, is_by_index}
+use Rattle.tensor_rank.specs.Orders.{Ordering, ByIndex, ByBlocks, IsBlock, AreBlocks, total, front_number, pair_of, is_by_index, spell, spelled_before}
 use Rattle.tensor_rank.specs.IndexLaws.{nth}
 
 -- ---- index order is the order of component numbers
@@ -92,9 +93,6 @@ digits_tell (x2 ∷ is) (x1 ∷ js) e = refl
 digits_tell (x3 ∷ is) (x1 ∷ js) e = refl
 digits_tell (x3 ∷ is) (x2 ∷ js) e = refl
 
-pub rest_none : (is js a b : Index) → length a ≡ length b → rest_before [] is js a b ≡ index_before a b
-rest_none is js a b e = digits_tell a b e
-
 block_front : (bs : List ℕ) (w : ℕ) (is : Index) → IsBlock w → w ≤ length is →
     block_numbers (w ∷ bs) is ≡ front_number w is ∷ block_numbers bs (drop w is)
 block_front bs zero is h l = absurd (omega (arith, h.0))
@@ -104,19 +102,6 @@ block_front bs (suc (suc zero)) [] h l = absurd (omega arith)
 block_front bs (suc (suc zero)) (i ∷ []) h l = absurd (omega arith)
 block_front bs (suc (suc zero)) (i ∷ (j ∷ is)) h l = refl
 block_front bs (suc (suc (suc w))) is h l = absurd (omega (arith, h.1))
-
-rest_front : (bs : List ℕ) (w : ℕ) (is js a b : Index) → IsBlock w → w ≤ length is → w ≤ length js →
-    rest_before (w ∷ bs) is js a b ≡
-    lexicographic (front_number w is ∷ (block_numbers bs (drop w is) ++ map digit a))
-    (front_number w js ∷ (block_numbers bs (drop w js) ++ map digit b))
-rest_front bs w is js a b h l m =
-    λ i. lexicographic (block_front bs w is h l i ++ map digit a) (block_front bs w js h m i ++ map digit b)
-
-lex_differs : (p q : ℕ) (ps qs : List ℕ) → p ≢ q → lexicographic (p ∷ ps) (q ∷ qs) ≡ nat_lt p q
-lex_differs p q ps qs n = elim (cases_lt p q) as (λ _. lexicographic (p ∷ ps) (q ∷ qs) ≡ nat_lt p q) [
-  | inl h ↦ grind (arith, nat_tests)
-  | inr h ↦ grind (arith, nat_tests)
-]
 
 -- the blocks from the place i on
 pub blocks_next : (r : ℕ) (ws : List ℕ) (i : ℕ) → i < length ws → AreBlocks r (drop i ws) →
@@ -136,39 +121,120 @@ blocks_before r ws i h block room rest =
     first : (w : ℕ) (rest : List ℕ) → IsBlock w → w ≤ r → AreBlocks (r - w) rest → AreBlocks r (w ∷ rest)
     first w rest b l f = let e : total rest ≡ r - w = f.1 in ((b, f.0), omega (arith, e, l))
 
-module _ (r : ℕ) (ws : List ℕ) (i s : ℕ) (a b : Index) (h : i < length ws) (la : length a ≡ r) (lb : length b ≡ r) (below : s ≤ r)
-    (fit : AreBlocks (r - s) (drop i ws)) where
-  -- the block at the place i, and the blocks behind it
-  rest_split : rest_before (drop i ws) (drop s a) (drop s b) a b ≡
-      lexicographic (front_number (get_or ws i 0) (drop s a) ∷ (block_numbers (drop (i + 1) ws) (drop (get_or ws i 0) (drop s a)) ++ map digit a))
-      (front_number (get_or ws i 0) (drop s b) ∷ (block_numbers (drop (i + 1) ws) (drop (get_or ws i 0) (drop s b)) ++ map digit b))
-  rest_split =
-      let w = get_or ws i 0 in
-      let n = blocks_next (r - s) ws i h fit in
-      let room : w ≤ r - s = n.1 in
-      let la_s = length-drop s a in
-      let lb_s = length-drop s b in
-      let ra : w ≤ length (drop s a) = omega (arith, room, la_s, la) in
-      let rb : w ≤ length (drop s b) = omega (arith, room, lb_s, lb) in
-      ap (λ bs. rest_before bs (drop s a) (drop s b) a b) (drop_more ws i 0 h)
-      ∙ rest_front (drop (i + 1) ws) w (drop s a) (drop s b) a b n.0 ra rb
+-- what the numbers of the blocks from the place i on spell
+pub spell_next : (r : ℕ) (ws : List ℕ) (i s x : ℕ) (is : Index) → i < length ws → length is ≡ r → s ≤ r → AreBlocks (r - s) (drop i ws) →
+    spell x (block_numbers (drop i ws) (drop s is)) ≡
+    spell (7 * x + front_number (get_or ws i 0) (drop s is)) (block_numbers (drop (i + 1) ws) (drop (s + get_or ws i 0) is))
+spell_next r ws i s x is h len below fit =
+    let w = get_or ws i 0 in
+    let n = blocks_next (r - s) ws i h fit in
+    let room : w ≤ r - s = n.1 in
+    let left = length-drop s is in
+    let inside : w ≤ length (drop s is) = omega (arith, room, left, len) in
+    ap (λ bs. spell x (block_numbers bs (drop s is))) (drop_more ws i 0 h)
+    ∙ ap (spell x) (block_front (drop (i + 1) ws) w (drop s is) n.0 inside)
+    ∙ (λ k. spell (7 * x + front_number w (drop s is)) (block_numbers (drop (i + 1) ws) (drop-drop w s is k)))
 
-  pub rest_same : front_number (get_or ws i 0) (drop s a) ≡ front_number (get_or ws i 0) (drop s b) →
-      rest_before (drop i ws) (drop s a) (drop s b) a b ≡
-      rest_before (drop (i + 1) ws) (drop (s + get_or ws i 0) a) (drop (s + get_or ws i 0) b) a b
-  rest_same same =
-      let w = get_or ws i 0 in
-      rest_split
-      ∙ lexicographic_same _ _ (block_numbers (drop (i + 1) ws) (drop w (drop s a)) ++ map digit a) (block_numbers (drop (i + 1) ws) (drop w (drop s b)) ++ map digit b) same
-      ∙ (λ k. rest_before (drop (i + 1) ws) (drop-drop w s a k) (drop-drop w s b k) a b)
+pub front_small : (w : ℕ) (is : Index) → front_number w is ≤ 6
+front_small zero is = omega arith
+front_small (suc zero) [] = omega arith
+front_small (suc zero) (x1 ∷ is) = omega arith
+front_small (suc zero) (x2 ∷ is) = omega arith
+front_small (suc zero) (x3 ∷ is) = omega arith
+front_small (suc (suc zero)) [] = omega arith
+front_small (suc (suc zero)) (i ∷ []) = omega arith
+front_small (suc (suc zero)) (x1 ∷ (x1 ∷ is)) = omega arith
+front_small (suc (suc zero)) (x1 ∷ (x2 ∷ is)) = omega arith
+front_small (suc (suc zero)) (x1 ∷ (x3 ∷ is)) = omega arith
+front_small (suc (suc zero)) (x2 ∷ (x1 ∷ is)) = omega arith
+front_small (suc (suc zero)) (x2 ∷ (x2 ∷ is)) = omega arith
+front_small (suc (suc zero)) (x2 ∷ (x3 ∷ is)) = omega arith
+front_small (suc (suc zero)) (x3 ∷ (x1 ∷ is)) = omega arith
+front_small (suc (suc zero)) (x3 ∷ (x2 ∷ is)) = omega arith
+front_small (suc (suc zero)) (x3 ∷ (x3 ∷ is)) = omega arith
+front_small (suc (suc (suc w))) is = omega arith
 
-  pub rest_differs : front_number (get_or ws i 0) (drop s a) ≢ front_number (get_or ws i 0) (drop s b) →
-      rest_before (drop i ws) (drop s a) (drop s b) a b ≡
-      nat_lt (front_number (get_or ws i 0) (drop s a)) (front_number (get_or ws i 0) (drop s b))
-  rest_differs differs =
-      let w = get_or ws i 0 in
-      rest_split
-      ∙ lex_differs _ _ (block_numbers (drop (i + 1) ws) (drop w (drop s a)) ++ map digit a) (block_numbers (drop (i + 1) ws) (drop w (drop s b)) ++ map digit b) differs
+-- one block more keeps below a power of 7
+pub spell_below : (s w x d : ℕ) → IsBlock w → x < 7 ^ s → d ≤ 6 → 7 * x + d < 7 ^ (s + w)
+spell_below s zero x d b h l = absurd (omega (arith, b.0))
+spell_below s (suc zero) x d b h l =
+    let e : 7 ^ (s + 1) ≡ 7 ^ s * 7 = ap (λ n. 7 ^ n) (omega arith) ∙ pow-suc 7 s in
+    omega (arith, e, h, l)
+spell_below s (suc (suc zero)) x d b h l =
+    let e : 7 ^ (s + 2) ≡ 7 ^ s * 7 * 7 = ap (λ n. 7 ^ n) (omega arith) ∙ pow-suc 7 (suc s) ∙ ap (λ n. n * 7) (pow-suc 7 s) in
+    omega (arith, e, h, l)
+spell_below s (suc (suc (suc w))) x d b h l = absurd (omega (arith, b.1))
+
+pub below_sixth : (s x : ℕ) → s ≤ 6 → x < 7 ^ s → x < 117649
+below_sixth s x h l = let m : 7 ^ s ≤ 7 ^ 6 = pow-le-pow_right (lit< tt) h in omega (arith, m, l)
+
+numbers_small : (bs : List ℕ) (is : Index) → Each (λ n. n ≤ 6) (block_numbers bs is)
+numbers_small [] is = tt
+numbers_small (zero ∷ bs) is = tt
+numbers_small (suc zero ∷ bs) [] = tt
+numbers_small (suc zero ∷ bs) (i ∷ is) = (front_small 1 (i ∷ is), numbers_small bs is)
+numbers_small (suc (suc zero) ∷ bs) [] = tt
+numbers_small (suc (suc zero) ∷ bs) (i ∷ []) = tt
+numbers_small (suc (suc zero) ∷ bs) (i ∷ (j ∷ is)) = (front_small 2 (i ∷ (j ∷ is)), numbers_small bs is)
+numbers_small (suc (suc (suc w)) ∷ bs) is = tt
+
+numbers_count : (bs : List ℕ) (is : Index) → total bs ≤ length is → Each IsBlock bs → length (block_numbers bs is) ≡ length bs
+numbers_count [] is l h = refl
+numbers_count (zero ∷ bs) is l h = absurd (omega (arith, h.0.0))
+numbers_count (suc zero ∷ bs) [] l h = absurd (omega arith)
+numbers_count (suc zero ∷ bs) (i ∷ is) l h = ap suc (numbers_count bs is (omega arith) h.1)
+numbers_count (suc (suc zero) ∷ bs) [] l h = absurd (omega arith)
+numbers_count (suc (suc zero) ∷ bs) (i ∷ []) l h = absurd (omega arith)
+numbers_count (suc (suc zero) ∷ bs) (i ∷ (j ∷ is)) l h = ap suc (numbers_count bs is (omega arith) h.1)
+numbers_count (suc (suc (suc w)) ∷ bs) is l h = absurd (omega (arith, h.0.1))
+
+-- what small digits spell is in their order
+spell_less : (ps qs : List ℕ) (x y : ℕ) → length ps ≡ length qs → Each (λ n. n ≤ 6) ps → x < y → spell x ps < spell y qs
+spell_less [] [] x y e small h = h
+spell_less [] (q ∷ qs) x y e small h = absurd (omega arith)
+spell_less (p ∷ ps) [] x y e small h = absurd (omega arith)
+spell_less (p ∷ ps) (q ∷ qs) x y e small h =
+    let le : p ≤ 6 = small.0 in
+    spell_less ps qs (7 * x + p) (7 * y + q) (omega arith) small.1 (omega (arith, le, h))
+
+spelled_less : (x y : ℕ) (rest : Bool) → x < y → spelled_before x y rest ≡ true
+spelled_less x y rest h = grind (arith, nat_tests)
+
+spelled_more : (x y : ℕ) (rest : Bool) → y < x → spelled_before x y rest ≡ false
+spelled_more x y rest h = grind (arith, nat_tests)
+
+spelled_same : (x y : ℕ) (rest : Bool) → x ≡ y → spelled_before x y rest ≡ rest
+spelled_same x y rest h = grind (arith, nat_tests)
+
+spell_tells : (ps qs : List ℕ) (x : ℕ) (a b : List ℕ) → length ps ≡ length qs → Each (λ n. n ≤ 6) ps → Each (λ n. n ≤ 6) qs →
+    lexicographic (ps ++ a) (qs ++ b) ≡ spelled_before (spell x ps) (spell x qs) (lexicographic a b)
+spell_tells [] [] x a b e small_p small_q = sym (spelled_same x x (lexicographic a b) refl)
+spell_tells [] (q ∷ qs) x a b e small_p small_q = absurd (omega arith)
+spell_tells (p ∷ ps) [] x a b e small_p small_q = absurd (omega arith)
+spell_tells (p ∷ ps) (q ∷ qs) x a b e small_p small_q =
+    let short : length ps ≡ length qs = omega arith in
+    let P = spell (7 * x + p) ps in
+    let Q = spell (7 * x + q) qs in
+    let rest = lexicographic (ps ++ a) (qs ++ b) in
+    elim (cases_lt p q) as (λ _. spelled_before p q rest ≡ spelled_before P Q (lexicographic a b)) [
+      | inl h ↦ spelled_less p q rest h ∙ sym (spelled_less P Q (lexicographic a b) (spell_less ps qs (7 * x + p) (7 * x + q) short small_p.1 (omega (arith, h))))
+      | inr h ↦ elim (cases_lt q p) as (λ _. spelled_before p q rest ≡ spelled_before P Q (lexicographic a b)) [
+        | inl l ↦ spelled_more p q rest l ∙ sym (spelled_more P Q (lexicographic a b) (spell_less qs ps (7 * x + q) (7 * x + p) (sym short) small_q.1 (omega (arith, l))))
+        | inr l ↦
+            let same : q ≡ p = omega (arith, h, l) in
+            spelled_same p q rest (sym same) ∙ spell_tells ps qs (7 * x + p) a b short small_p.1 small_q.1
+            ∙ ap (λ d. spelled_before P (spell (7 * x + d) qs) (lexicographic a b)) (sym same)
+      ]
+    ]
+
+pub spelled_order : (r : ℕ) (bs : List ℕ) (is js : Index) → AreBlocks r bs → length is ≡ r → length js ≡ r →
+    block_before bs is js ≡ spelled_before (spell 0 (block_numbers bs is)) (spell 0 (block_numbers bs js)) (index_before is js)
+spelled_order r bs is js fit li lj =
+    let t : total bs ≡ r = fit.1 in
+    spell_tells (block_numbers bs is) (block_numbers bs js) 0 (map digit is) (map digit js)
+    (numbers_count bs is (omega (arith, t, li)) fit.0 ∙ sym (numbers_count bs js (omega (arith, t, lj)) fit.0))
+    (numbers_small bs is) (numbers_small bs js)
+    ∙ ap (spelled_before (spell 0 (block_numbers bs is)) (spell 0 (block_numbers bs js))) (digits_tell is js (li ∙ sym lj))
 
 -- ---- the number of one block
 pub front_one : (is : Index) (s : ℕ) → s < length is → front_number 1 (drop s is) ≡ digit (nth is s)

@@ -7,9 +7,11 @@
 --   OrdersAreOrders    each of these orders is one
 --   front_number    the number of the first block of an index list
 --   pair_of         a pair number from two digits
---   rest_before     block order where the first blocks agree
-use Rattle.std.specs.Prelude.{◌≡◌, ℕ, zero, suc, ◌+◌, ◌-◌, ◌≤◌, nat_eq, Bool, true, false, List, [], ◌∷◌, ◌++◌, cond, map}
-use Rattle.tensor_defs.specs.Lists.{Each, lexicographic}
+--   spell           the number that digits spell in base 7 behind a number
+--   AreSpelled      for each component below an end what the numbers of its blocks spell
+--   spelled_before  what is spelled decides, and where it agrees something else
+use Rattle.std.specs.Prelude.{◌≡◌, ℕ, zero, suc, ◌+◌, ◌-◌, ◌*◌, ◌<◌, ◌≤◌, nat_eq, nat_lt, Bool, true, false, List, [], ◌∷◌, cond, get_or, length}
+use Rattle.tensor_defs.specs.Lists.{Each}
 use Rattle.tensor_defs.specs.Orders.{index_before, block_before, block_numbers, pair_number, IsOrder}
 use Rattle.tensor_defs.specs.Tensor.{Index, digit, index_of}
 
@@ -49,5 +51,13 @@ front_number w is = 0
 abbrev pub pair_of : ℕ → ℕ → ℕ
 pair_of d e = cond (nat_eq d e) d (9 - (d + e))
 
-abbrev pub rest_before : List ℕ → Index → Index → Index → Index → Bool
-rest_before bs is js a b = lexicographic (block_numbers bs is ++ map digit a) (block_numbers bs js ++ map digit b)
+abbrev pub spell : ℕ → List ℕ → ℕ
+spell x [] = x
+spell x (p ∷ ps) = spell (7 * x + p) ps
+
+pub record AreSpelled (r : ℕ) (bs : List ℕ) (end : ℕ) (xs : List ℕ) : Type 0 where
+  pub len : length xs ≡ 729
+  pub each : (c : ℕ) → c < end → get_or xs c 0 ≡ spell 0 (block_numbers bs (index_of r c))
+
+abbrev pub spelled_before : ℕ → ℕ → Bool → Bool
+spelled_before x y rest = cond (nat_lt x y) true (cond (nat_lt y x) false rest)

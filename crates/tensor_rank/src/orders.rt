@@ -1,8 +1,8 @@
 //! Index order and the orders by blocks.
-ghost use Rattle.std.specs.Prelude.{◌≡◌, ℕ, ◌+◌, ◌<◌, ◌≤◌, ◌↔◌, IsNone, IfSome, drop};
-ghost use Rattle.tensor_defs.specs.Orders.{block_before, index_before};
+ghost use Rattle.std.specs.Prelude.{◌≡◌, ℕ, ◌+◌, ◌<◌, ◌≤◌, ◌↔◌, IsNone, IfSome, drop, get_or, length};
+ghost use Rattle.tensor_defs.specs.Orders.{block_numbers, index_before};
 ghost use Rattle.tensor_defs.specs.Tensor.{index_of};
-ghost use Rattle.tensor_rank.specs.Orders.{AreBlocks, ByBlocks, ByIndex, IsBlock, before_of, front_number, is_by_index};
+ghost use Rattle.tensor_rank.specs.Orders.{AreBlocks, AreSpelled, ByBlocks, ByIndex, IsBlock, before_of, front_number, is_by_index, spell, spelled_before};
 
 use crate::components::Comp;
 use crate::ranks::Rank;
@@ -14,8 +14,13 @@ use std::marker::{Model, PhantomData};
 enum Kind {
     /// The index digits, the first index first.
     Index,
-    /// The numbers of blocks of one or two indices, and where all agree the index digits.
-    Blocks { sizes: [u8; 6], count: usize },
+    /// The numbers of blocks of one or two indices, and where all agree the index digits. For each component the
+    /// number that those of its blocks spell in base 7.
+    Blocks {
+        sizes: [u8; 6],
+        count: usize,
+        spelled: [u32; 729],
+    },
 }
 
 /// An order of the components of rank R.
@@ -63,19 +68,43 @@ fn index_precedes<R: Rank>(a: Comp<R>, b: Comp<R>) -> bool
     a.number() < b.number()
 }
 
-/// Whether a component comes before another in the order of blocks.
-fn blocks_precede<R: Rank>(sizes: &[u8], a: Comp<R>, b: Comp<R>) -> bool
+/// The number that those of the blocks of a component spell in base 7.
+fn spelled_by<R: Rank>(sizes: &[u8], c: Comp<R>) -> u32
     requires { AreBlocks R.R sizes.now }
-    ensures { result ≡ block_before sizes.now (index_of R.R a) (index_of R.R b) }
+    ensures { result ≡ spell 0 (block_numbers sizes.now (index_of R.R c)) }
 {
+    let mut spelled = 0;
     let mut start = 0;
     for size in sizes {
-        let one = block_number(*size, start, a);
-        let other = block_number(*size, start, b);
-        if one != other {
-            return one < other;
-        }
+        spelled = 7 * spelled + u32::from(block_number(*size, start, c));
         start += *size as usize;
+    }
+    spelled
+}
+
+/// The same for each component.
+fn spelled_numbers<R: Rank>(sizes: &[u8]) -> [u32; 729]
+    requires { AreBlocks R.R sizes.now }
+    ensures { AreSpelled R.R sizes.now R.LEN result }
+{
+    let mut spelled = [0; 729];
+    for number in 0..R::LEN {
+        spelled[number] = spelled_by(sizes, Comp::<R>::at(number));
+    }
+    spelled
+}
+
+/// Whether a component comes before another in the order of blocks, by what their numbers spell.
+fn spelled_precede<R: Rank>(spelled: &[u32], a: Comp<R>, b: Comp<R>) -> bool
+    requires { length spelled.now ≡ 729 }
+    ensures first { a < R.LEN }
+    ensures second { b < R.LEN }
+    ensures value { result ≡ spelled_before (get_or spelled.now a 0) (get_or spelled.now b 0) (index_before (index_of R.R a) (index_of R.R b)) }
+{
+    let one = spelled[a.number() as usize];
+    let other = spelled[b.number() as usize];
+    if one != other {
+        return one < other;
     }
     index_precedes(a, b)
 }
@@ -112,7 +141,11 @@ impl<R: Rank> Order<R> {
         let count = blocks.len();
         sizes[..count].copy_from_slice(blocks);
         Some(Order {
-            kind: Kind::Blocks { sizes, count },
+            kind: Kind::Blocks {
+                sizes,
+                count,
+                spelled: spelled_numbers::<R>(blocks),
+            },
             of: PhantomData,
         })
     }
@@ -130,7 +163,7 @@ impl<R: Rank> Order<R> {
     {
         match &self.kind {
             Kind::Index => index_precedes(a, b),
-            Kind::Blocks { sizes, count } => blocks_precede(&sizes[..*count], a, b),
+            Kind::Blocks { spelled, .. } => spelled_precede(spelled, a, b),
         }
     }
 }

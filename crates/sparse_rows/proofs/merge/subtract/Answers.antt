@@ -10,7 +10,7 @@ loop-i-init c =
     let xs = c.args.row.now in
     let ys = c.args.other.now in
     let f = value_of c.args.factor.now in
-    (subst (IsMerging (coeff xs) f (coeff ys) xs ys) (sym c.in_ok-out.ensures.empty) (merge-start xs ys f c.requires.row c.requires.other), (omega arith), (omega arith))
+    (subst (IsMerging (coeff xs) f (coeff ys) xs ys) (sym c.clear.ensures.items) (merge-start xs ys f c.requires.row c.requires.other), (omega arith), (omega arith))
 
 pub loop-i-preserved-then-j-other-2 : goal.loop-i-preserved-then-j-other-2
 loop-i-preserved-then-j-other-2 c =
@@ -112,16 +112,16 @@ loop-i-preserved c =
     let l : c.loop-i.i < length xs = let k = c.loop-i.invariant.1 in let d = c.if-i-row-2.false in omega (arith, k, d) in
     let u : a.unknown ≡ b.unknown = let p = c.if-a-b.false in let q = c.if-b-a.false in omega (arith, p, q) in
     let m = heads-at (coeff xs) f (coeff ys) xs ys c.loop-i.out.items c.loop-i.i c.loop-i.j a b c.loop-i.invariant.0 l c.index-row-i-else-i-row-2.is h c.index-other-j-else-i-row-2.is in (
-      elim c.match-branch-9.branch [
+      elim c.match-branch-8.branch [
         | in-Some+in_ok-put-5 w ↦
             let e = w.in-Some.entry in
             let n : IsLeft f a b (Some e) = subst (IsLeft f a b) w.in-Some.is c.in_ok-entry.ensures.entry in
-            let o : c.match-branch-9.out.items ≡ c.loop-i.out.items ++ e ∷ [] = (λ i. (w.out-is i).items) ∙ w.in_ok-put-5.ensures.put in
+            let o : c.match-branch-8.out.items ≡ c.loop-i.out.items ++ e ∷ [] = (λ i. (w.out-is i).items) ∙ w.in_ok-put-5.ensures.put in
             subst (IsMerging (coeff xs) f (coeff ys) (drop (c.loop-i.i + 1) xs) (drop (c.loop-i.j + 1) ys)) (sym o)
             (merge-both (coeff xs) f (coeff ys) a b e (drop (c.loop-i.i + 1) xs) (drop (c.loop-i.j + 1) ys) c.loop-i.out.items m u n.calm n.unknown n.value n.entry)
         | in_default w ↦
             let n : IsLeft f a b None = subst (IsLeft f a b) w.in_default.is c.in_ok-entry.ensures.entry in
-            let o : c.match-branch-9.out.items ≡ c.loop-i.out.items = λ i. (w.out-is i).items in
+            let o : c.match-branch-8.out.items ≡ c.loop-i.out.items = λ i. (w.out-is i).items in
             subst (IsMerging (coeff xs) f (coeff ys) (drop (c.loop-i.i + 1) xs) (drop (c.loop-i.j + 1) ys)) (sym o)
             (merge-none (coeff xs) f (coeff ys) a b (drop (c.loop-i.i + 1) xs) (drop (c.loop-i.j + 1) ys) c.loop-i.out.items m u n.1 n.0)
       ],

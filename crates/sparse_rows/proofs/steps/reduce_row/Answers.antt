@@ -1,12 +1,18 @@
-use Rattle.std.proofs.Common.{◌≡◌, ◌∙◌, ◌<◌, ◌+◌, sym, subst, length, drop, false, arith}
+use Rattle.std.proofs.Common.{◌≡◌, ◌∙◌, ◌<◌, ◌+◌, ℕ, ap, sym, subst, length, drop, false, arith}
+use Rattle.std.proofs.lemmas.Bool.{eqb-true}
 use Rattle.tensor_defs.specs.Number.{num_zero, value_of}
 use Rattle.sparse_rows.specs.Rows.{coeff, IsRow}
 use Rattle.sparse_rows.specs.Marks.{is_marked}
 use Rattle.sparse_rows.specs.KeptRows.{kept_of, kepts, IsFound}
 use Rattle.sparse_rows.proofs.Marking.{met-less, met-same}
-use Rattle.sparse_rows.proofs.RowSteps.{IsReducing, reducing-at, reducing-skip, reducing-less, difference-same}
+use Rattle.sparse_rows.proofs.RowSteps.{IsReducing, reduced-none, reducing-at, reducing-skip, reducing-less, difference-same}
 use Rattle.sparse_rows.proofs.steps.reduce_row.Goals as goal
-use Rattle.sparse_rows.proofs.steps.reduce_row.Goals.{then-is_marked+in-Some+in_ok-left-2, then-is_marked+in_default, else-is_marked}
+use Rattle.sparse_rows.proofs.steps.reduce_row.Goals.{then-is_marked+in-Some+in_ok-subtract, then-is_marked+in_default, else-is_marked}
+
+pub returns-then-is_empty-clause-reduced : goal.returns-then-is_empty-clause-reduced
+returns-then-is_empty-clause-reduced c =
+    let none : length c.args.row.now ≡ 0 = eqb-true (length c.args.row.now) 0 (sym c.is_empty.ensures ∙ c.if-is_empty.true) in
+    reduced-none (kepts c.args.kept.now) c.args.row.now c.copy_to.new.out.items none c.in_ok-copy_to.ensures.copied
 
 pub loop-k-preserved : goal.loop-k-preserved
 loop-k-preserved c =
@@ -18,10 +24,10 @@ loop-k-preserved c =
     let h : i < length ks = c.loop-k-test.true in
     let skip = reducing-skip (kepts ks) ρ0 (kept_of k) (kepts (drop (i + 1) ks)) ρ (reducing-at ks ρ0 ρ i k c.loop-k.invariant.0 h c.k-item.is) in
     elim c.if-is_marked.branch [
-      | then-is_marked+in-Some+in_ok-left-2 w ↦
+      | then-is_marked+in-Some+in_ok-subtract w ↦
           let f = value_of w.in-Some.factor in
           let n = subst (IsFound (coeff w.deref.result.now k.pivot)) w.in-Some.is w.find.ensures in
-          let d = difference-same _ _ _ _ _ c.if-is_marked.left.items f w.deref-in-Some.ensures.value w.deref-in-Some-2.ensures.value (λ j. (w.left-is j).items) w.in_ok-left-2.ensures.difference in (
+          let d = difference-same _ _ _ _ _ c.if-is_marked.left.items f w.deref-in-Some.ensures.value w.deref-in-Some-2.ensures.value ((λ j. (w.left-is j).items) ∙ ap (λ v. v.items) w.swap.ensures.x_after) w.in_ok-subtract.ensures.difference in (
             reducing-less ks ρ0 ρ i k f c.if-is_marked.left.items c.loop-k.invariant.0 h c.k-item.is (sym n.0.same ∙ (λ j. coeff (w.deref.ensures.value j) k.pivot)) d,
             d.is_row,
             (omega (arith, h)),

@@ -12,7 +12,7 @@ pub loop-entry-init : goal.loop-entry-init
 loop-entry-init c =
     let xs = c.args.row.now in
     let w = inverse_of c.index-row-row.result.value in
-    (subst (IsScaling (coeff xs) w xs) (sym c.new-entries.ensures.items) (scaling-start xs w c.requires.row), (omega arith))
+    (subst (IsScaling (coeff xs) w xs) (sym c.in_ok-entries.ensures.empty) (scaling-start xs w c.requires.row), (omega arith))
 
 pub quotient-requires : goal.quotient-requires
 quotient-requires c =
@@ -30,7 +30,7 @@ returns-in_err-value-clause-grows c =
     let s = c.requires.some in
     let h : suc (length xs - 1) ≡ length xs = omega (arith, s) in
     let m = subst (λ A. IsScaling (coeff xs) w A c.loop-entry.entries.items) (drop_head xs i c.entry-item.result c.loop-entry-test.true c.entry-item.is) c.loop-entry.invariant.0 in
-    always_err c.from_residual.result (record {
+    always_err c.from_residual-in_err-value.result (record {
       place = x.unknown;
       inverse = w;
       pivot = last-pivot xs (length xs - 1) x h c.index-row-row.is c.requires.row;
