@@ -49,12 +49,7 @@ fn push_term(terms: &mut Vec<Term>, number: usize, quarters: u8) -> Result<(), N
 }
 
 /// Lists the components that a last letter gives, by its digit.
-fn list_last(
-    terms: &mut Vec<Term>,
-    digit: u8,
-    number: usize,
-    quarters: u8,
-) -> Result<(), NoMemory>
+fn list_last(terms: &mut Vec<Term>, digit: u8, number: usize, quarters: u8) -> Result<(), NoMemory>
     requires number { number < 729 }
     requires quarters { quarters ≤ 15 }
     ensures level { digit ≡ 1 → OnOk result (terms.new.items ≡ terms.old.items ++ terms_from (3 * number + 2) quarters []) }

@@ -134,11 +134,7 @@ pub fn scale(alloc: Global, row: &[Entry]) -> Result<KeptRow, EliminateFault>
 }
 
 /// A kept row, less what the new row takes away.
-fn clear_one(
-    spare: &mut Vec<Entry>,
-    row: &mut KeptRow,
-    new: &KeptRow,
-) -> Result<(), EliminateFault>
+fn clear_one(spare: &mut Vec<Entry>, row: &mut KeptRow, new: &KeptRow) -> Result<(), EliminateFault>
     requires row { IsRow row.old.entries.items }
     requires new { IsRow new.now.entries.items }
     ensures cleared { OnOk result (IsClearedRow (kept_of new.now) (kept_of row.old) row.new) }

@@ -219,12 +219,12 @@ spell_tells (p ∷ ps) (q ∷ qs) x a b e small_p small_q =
     elim (cases_lt p q) as (λ _. spelled_before p q rest ≡ spelled_before P Q (lexicographic a b)) [
       | inl h ↦ spelled_less p q rest h ∙ sym (spelled_less P Q (lexicographic a b) (spell_less ps qs (7 * x + p) (7 * x + q) short small_p.1 (omega (arith, h))))
       | inr h ↦ elim (cases_lt q p) as (λ _. spelled_before p q rest ≡ spelled_before P Q (lexicographic a b)) [
-          | inl l ↦ spelled_more p q rest l ∙ sym (spelled_more P Q (lexicographic a b) (spell_less qs ps (7 * x + q) (7 * x + p) (sym short) small_q.1 (omega (arith, l))))
-          | inr l ↦
-              let same : q ≡ p = omega (arith, h, l) in
-              spelled_same p q rest (sym same) ∙ spell_tells ps qs (7 * x + p) a b short small_p.1 small_q.1
-              ∙ ap (λ d. spelled_before P (spell (7 * x + d) qs) (lexicographic a b)) (sym same)
-        ]
+        | inl l ↦ spelled_more p q rest l ∙ sym (spelled_more P Q (lexicographic a b) (spell_less qs ps (7 * x + q) (7 * x + p) (sym short) small_q.1 (omega (arith, l))))
+        | inr l ↦
+            let same : q ≡ p = omega (arith, h, l) in
+            spelled_same p q rest (sym same) ∙ spell_tells ps qs (7 * x + p) a b short small_p.1 small_q.1
+            ∙ ap (λ d. spelled_before P (spell (7 * x + d) qs) (lexicographic a b)) (sym same)
+      ]
     ]
 
 pub spelled_order : (r : ℕ) (bs : List ℕ) (is js : Index) → AreBlocks r bs → length is ≡ r → length js ≡ r →
