@@ -1,6 +1,5 @@
 -- Answers of lines.
 --   one_answer_by       a line has one answer where its request has one
---   one_form_answer_lem, one_group_answer_lem    lines that spell a request for a form or for a group
 --   below_unrefused     the second group of a request for classes that isn't refused is below the first
 --   one_answer_lem      a line of a format and a number has one answer
 use Rattle.std.proofs.Common.{◌≡◌, ℕ, ◌+◌, ◌≤◌, List, [], ◌∷◌, length, refl, sym, ◌∙◌, ◌⊎◌, inl, inr, subst}
@@ -8,7 +7,7 @@ use Rattle.std.proofs.lemmas.Bool.{cases_lt}
 use Rattle.tensor_defs.specs.Group.{InGroup, IsAccepted, IsBelow}
 use Rattle.tensor_defs.specs.Lists.{Each}
 use Rattle.tensor_defs.specs.Symbols.{IsGroupSymbol}
-use Rattle.text_defs.specs.Answers.{AnswersRequest}
+use Rattle.text_defs.specs.Answers.{AnswersRequest, IsAnswer}
 use Rattle.text_defs.specs.Refusals.{RefusalWord, Long, Primes, NotSub, FirstRefused, Refuses, refusal_text}
 use Rattle.text_defs.specs.declared.Format.{Format}
 use Rattle.text_defs.specs.Requests.{GroupAt, Request, SpellsRequest, longest_line}
@@ -24,14 +23,15 @@ use Rattle.answer_laws.proofs.Groups.{spelled_symbol}
 use Rattle.answer_laws.proofs.RefusalUnique.{one_refusal_lem}
 use Rattle.answer_laws.proofs.SameTensors.{one_same_lem}
 use Rattle.answer_laws.proofs.Voigts.{one_voigt_lem}
-use Rattle.answer_laws.specs.Laws.{LineHasOneAnswer, OneFormAnswer, OneGroupAnswer, OneAnswer}
+use Rattle.answer_laws.specs.Laws.{HasOneAnswer, OneAnswer}
 
 abbrev IsFree : Format → List ℕ → Type 0
 IsFree format line = (word : RefusalWord) (column : ℕ) → Refuses format line word column → ⊥
 
 -- where each request that a line spells and that isn't refused has one answer, the line has one
-pub one_answer_by : (format : Format) (line : List ℕ) → ((q : Request) → SpellsRequest format line q → IsFree format line →
-    (a b : List ℕ) → AnswersRequest q a → AnswersRequest q b → a ≡ b) → LineHasOneAnswer format line
+one_answer_by : (format : Format) (line : List ℕ) →
+    ((q : Request) → SpellsRequest format line q → IsFree format line → HasOneAnswer q) → (number : ℕ) (a b : List ℕ) →
+    IsAnswer format number line a → IsAnswer format number line b → a ≡ b
 one_answer_by format line one number a b (inl p) (inl q) = p.1 ∙ sym q.1
 one_answer_by format line one number a b (inl p) (inr q) = absurd (q.0 p.0)
 one_answer_by format line one number a b (inr p) (inl q) = absurd (p.0 q.0)
@@ -45,16 +45,6 @@ one_answer_by format line one number a b (inr (passed, inr p)) (inr (other, inl 
 one_answer_by format line one number a b (inr (passed, inr p)) (inr (other, inr q)) =
     one q.1 q.2 (λ w c r. q.0 (other, w, c, r)) a b
     (subst (λ r. AnswersRequest r a) (one_request_spelled format line p.1 q.1 p.2 q.2) p.3) q.3
-
-pub one_form_answer_lem : OneFormAnswer
-one_form_answer_lem format line g js s =
-    one_answer_by format line (λ q t free a b. subst (λ r. AnswersRequest r a → AnswersRequest r b → a ≡ b)
-    (one_request_spelled format line (Form g js) q s t) (one_form_lem g js a b))
-
-pub one_group_answer_lem : OneGroupAnswer
-one_group_answer_lem format line g s =
-    one_answer_by format line (λ q t free a b. subst (λ r. AnswersRequest r a → AnswersRequest r b → a ≡ b)
-    (one_request_spelled format line (Group g) q s t) (one_group_lem g a b))
 
 -- ---- what isn't refused
 accepted_or : (gs : List GroupAt) →
@@ -87,8 +77,7 @@ below_unrefused format line g f s free h fails =
       | inr r ↦ free Primes r.0 (short format line free, Pairs g f, s, r.1)
     ])
 
-one_of : (format : Format) (line : List ℕ) (q : Request) → SpellsRequest format line q → IsFree format line →
-    (a b : List ℕ) → AnswersRequest q a → AnswersRequest q b → a ≡ b
+one_of : (format : Format) (line : List ℕ) (q : Request) → SpellsRequest format line q → IsFree format line → HasOneAnswer q
 one_of format line (Form g js) s free = one_form_lem g js
 one_of format line (Group g) s free = one_group_lem g
 one_of format line (Voigt g j w) s free = one_voigt_lem g j w

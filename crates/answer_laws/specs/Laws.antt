@@ -8,10 +8,8 @@
 --                   the second symbol keeps the rules of symbols
 --   OnePairs        a request for pair classes has one answer, where both symbols keep the rules and the second
 --                   group is below the first
---   LineHasOneAnswer    a line of a format has one answer at each number
 --   OneAnswer       a line of a format and a number has one answer
 --   OneOutput       an input has one output: the answers of its lines
---   OneFormAnswer, OneGroupAnswer    a line that spells a request for a form, or for a group, has one answer
 use Rattle.std.specs.Prelude.{◌≡◌, ℕ, List}
 use Rattle.tensor_defs.specs.declared.Weights.{Weights}
 use Rattle.tensor_defs.specs.Lists.{IsListing}
@@ -23,7 +21,7 @@ use Rattle.text_defs.specs.declared.Format.{Format}
 use Rattle.text_defs.specs.Answers.{AnswersRequest, IsAnswer}
 use Rattle.text_defs.specs.Lines.{AreAnswersOf}
 use Rattle.text_defs.specs.Refusals.{RefusalWord, Refuses}
-use Rattle.text_defs.specs.Requests.{GroupAt, JahnAt, Request, SpellsRequest}
+use Rattle.text_defs.specs.Requests.{GroupAt, JahnAt, Request}
 use Rattle.text_defs.specs.Requests.Request.{Form, Group, Voigt, States, Pairs, Differ, Same}
 
 abbrev pub OneListing : Type 0
@@ -62,20 +60,6 @@ abbrev pub OnePairs : Type 0
 OnePairs =
     (g f : GroupAt) → IsGroupSymbol g.symbol → IsGroupSymbol f.symbol →
     IsBelow (InGroup f.symbol) (InGroup g.symbol) → HasOneAnswer (Pairs g f)
-
--- a line has one answer
-abbrev pub LineHasOneAnswer : Format → List ℕ → Type 0
-LineHasOneAnswer format line =
-    (number : ℕ) (a b : List ℕ) → IsAnswer format number line a → IsAnswer format number line b → a ≡ b
-
-abbrev pub OneFormAnswer : Type 0
-OneFormAnswer =
-    (format : Format) (line : List ℕ) (g : GroupAt) (js : List JahnAt) → SpellsRequest format line (Form g js) →
-    LineHasOneAnswer format line
-
-abbrev pub OneGroupAnswer : Type 0
-OneGroupAnswer =
-    (format : Format) (line : List ℕ) (g : GroupAt) → SpellsRequest format line (Group g) → LineHasOneAnswer format line
 
 abbrev pub OneAnswer : Type 0
 OneAnswer =

@@ -1,7 +1,7 @@
 //! Laws of answers: at most one refusal applies to a line, and a line has one answer.
 #![tactic(auto)]
 
-ghost use Rattle.answer_laws.specs.Laws.{OneAnswer, OneDiffer, OneForm, OneFormAnswer, OneGroup, OneGroupAnswer, OneListing, OneOutput, OnePairs, OneRefusal, OneSame, OneStates, OneVoigt};
+ghost use Rattle.answer_laws.specs.Laws.{OneAnswer, OneDiffer, OneForm, OneGroup, OneListing, OneOutput, OnePairs, OneRefusal, OneSame, OneStates, OneVoigt};
 
 /// The group of a symbol has one listing in the order of operations.
 pub fn one_listing()
@@ -46,16 +46,6 @@ pub fn one_differ()
 /// A request for pair classes has one answer.
 pub fn one_pairs()
     ensures { OnePairs }
-{}
-
-/// A line that spells a request for forms has one answer.
-pub fn one_form_answer()
-    ensures { OneFormAnswer }
-{}
-
-/// A line that spells a request for the elements of a group has one answer.
-pub fn one_group_answer()
-    ensures { OneGroupAnswer }
 {}
 
 /// A line of a format and a number has one answer.

@@ -20,6 +20,7 @@ use Rattle.tensor_rank.proofs.ExchangeLaws.{power_small}
 use Rattle.tensor_rank.specs.IndexLaws.{component_below_at, index_number_at, number_index_at, place_below}
 use Rattle.text_defs.specs.AnswerTexts.{component_name, digits_text}
 use Rattle.text_defs.specs.Languages.{IsFaulty}
+use Rattle.list_laws.proofs.Tests.{next_number}
 use Rattle.fault_places.proofs.Places.{Through, Through-faulty, Through-short, Through-skip, Through-start, Through-stuck, same_faulty}
 use Rattle.number_words.specs.Laws.{OneNumber}
 use Rattle.number_words.specs.NumberWords.{IsNumberText, SpellsNumber, root_word, size}
@@ -41,11 +42,8 @@ pub length_digits : (is : Index) → length (digits_of is) ≡ length is
 length_digits [] = refl
 length_digits (i ∷ is) = ap suc (length_digits is)
 
-suc_one : (n : ℕ) → suc n ≡ 1 + n
-suc_one n = omega arith
-
 pub name_length : (is : Index) (z : List ℕ) → length (component_name is ++ z) ≡ 1 + length is + length z
-name_length is z = length-append (component_name is) z ∙ ap (λ (n : ℕ). n + length z) (ap suc (length_digits is) ∙ suc_one (length is))
+name_length is z = length-append (component_name is) z ∙ ap (λ (n : ℕ). n + length z) (ap suc (length_digits is) ∙ next_number (length is))
 
 same_axis : (i k : Axis) → 48 + digit i ≡ 48 + digit k → i ≡ k
 same_axis x1 x1 e = refl

@@ -16,10 +16,10 @@ use Rattle.text_laws.specs.Laws.{OneGroupSymbol, OneJahnSymbol}
 use Rattle.tool_runs.specs.Tools.{Words}
 use Rattle.tool_runs.specs.declared.refusals.RefusalName.{RefusalName}
 use Rattle.tool_runs.specs.declared.refusals.RefusalName.TheVariants as Name
-use Rattle.tool_runs.specs.declared.refusals.ToolRefusal.{ToolRefusal}
 use Rattle.tool_runs.proofs.LongWords.{none_first}
+use Rattle.tool_runs.proofs.Refusing.{NoneApplies, none_refuses}
 use Rattle.check_runs.specs.CheckTexts.{IsCheckText}
-use Rattle.check_runs.specs.CheckWords.{Grows, IsAsked, IsFit, IsRefusedGiven, IsTask, Refuses, RefusesAs, RefusesGiven, group_word, jahn_word, later_words}
+use Rattle.check_runs.specs.CheckWords.{Grows, IsAsked, IsFit, IsRefusedGiven, IsTask, RefusesAs, RefusesGiven, group_word, jahn_word, later_words}
 use Rattle.check_runs.specs.Settings.{AreOnce, AreSettings, ComesAgain, Given, given_tensor}
 use Rattle.check_runs.specs.Stops.{IsAnswered, IsAnsweredGiven, given_by_all}
 use Rattle.check_runs.specs.declared.settings.Setting.{Setting}
@@ -59,29 +59,26 @@ module _ (groups : OneGroupSymbol) (jahns : OneJahnSymbol) (words : Words) (g : 
       (subst (λ (i : JahnSymbol). RefusesGiven name g i (later_words words) number column) (symbol_same h k other.asked)
       (subst (λ (f : GroupSymbol). RefusesGiven name f k (later_words words) number column) (group_same h k other.asked) r))
 
-  not_refused_as : (name : RefusalName) (number column : ℕ) → RefusesAs name words number column → ⊥
-  not_refused_as Name.Long number column h = none_first words 1 number fit.asked.short h.0
-  not_refused_as Name.Syntax number column (inl (none, place, inl f, is)) = f.0.none (g, fit.asked.group_is)
-  not_refused_as Name.Syntax number column (inl (none, place, inr f, is)) = f.1.none (j, fit.asked.symbol_is)
-  not_refused_as Name.Syntax number column (inr h) = not_given Name.Syntax number column h
-  not_refused_as Name.Primes number column (h, k, other, bad, a, b) =
+  pub none_applies : NoneApplies RefusesAs words
+  none_applies Name.Long number column h = none_first words 1 number fit.asked.short h.0
+  none_applies Name.Syntax number column (inl (none, place, inl f, is)) = f.0.none (g, fit.asked.group_is)
+  none_applies Name.Syntax number column (inl (none, place, inr f, is)) = f.1.none (j, fit.asked.symbol_is)
+  none_applies Name.Syntax number column (inr h) = not_given Name.Syntax number column h
+  none_applies Name.Primes number column (h, k, other, bad, a, b) =
       bad (subst IsAccepted (sym (group_same h k other)) fit.accepted)
-  not_refused_as Name.Rank number column (h, k, other, good, more, a, b) =
+  none_applies Name.Rank number column (h, k, other, good, more, a, b) =
       let e : rank k ≡ rank j = ap rank (symbol_same h k other) in
       let f : rank j ≤ 6 = fit.small in
       omega arith
-  not_refused_as (Name.NotSub first) number column h = not_given (Name.NotSub first) number column h
-  not_refused_as Name.TooLarge number column h = not_given Name.TooLarge number column h
-  not_refused_as Name.Twice number column h = not_given Name.Twice number column h
-  not_refused_as Name.NoName number column h = not_given Name.NoName number column h
-
-  pub not_refused : (r : ToolRefusal) → Refuses words r → ⊥
-  not_refused r h = not_refused_as r.name r.word r.column h
+  none_applies (Name.NotSub first) number column h = not_given (Name.NotSub first) number column h
+  none_applies Name.TooLarge number column h = not_given Name.TooLarge number column h
+  none_applies Name.Twice number column h = not_given Name.Twice number column h
+  none_applies Name.NoName number column h = not_given Name.NoName number column h
 
 pub answered_words : {A E : Type 0} (groups : OneGroupSymbol) (jahns : OneJahnSymbol) (words : Words) (g : GroupSymbol) (j : JahnSymbol)
     (fit : IsFit words g j) (items : A → List ℕ) (r : Result A E) → IfOk r (λ x. IsAnsweredGiven g j (later_words words) (items x)) →
     IfOk r (λ x. IsAnswered words (items x))
-answered_words groups jahns words g j fit items (Ok x) h = (not_refused groups jahns words g j fit h.0, (g, j, fit, h.1))
+answered_words groups jahns words g j fit items (Ok x) h = (none_refuses RefusesAs words (none_applies groups jahns words g j fit h.0), (g, j, fit, h.1))
 answered_words groups jahns words g j fit items (Err e) h = h
 
 -- the lists are those of the settings and of the tensor that they give

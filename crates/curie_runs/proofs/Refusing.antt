@@ -8,10 +8,10 @@ use Rattle.limiting_groups.specs.CurieTables.{CurieGrows}
 use Rattle.tool_runs.specs.Tools.{Words}
 use Rattle.tool_runs.specs.declared.refusals.RefusalName.{RefusalName}
 use Rattle.tool_runs.specs.declared.refusals.RefusalName.TheVariants as Name
-use Rattle.tool_runs.specs.declared.refusals.ToolRefusal.{ToolRefusal}
 use Rattle.tool_runs.proofs.LongWords.{none_first}
+use Rattle.tool_runs.proofs.Refusing.{NoneApplies}
 use Rattle.curie_runs.specs.CurieTexts.{curie_text}
-use Rattle.curie_runs.specs.CurieWords.{IsAsked, Refuses, RefusesAs}
+use Rattle.curie_runs.specs.CurieWords.{IsAsked, RefusesAs}
 
 -- a group by its text
 abbrev curie_of : List ℕ → Curie
@@ -37,21 +37,18 @@ module _ (law : OneJahnSymbol) (words : Words) (group : Curie) (j : JahnSymbol) 
   group_same : (h : Curie) (k : JahnSymbol) → IsAsked words h k → group ≡ h
   group_same h k other = one_group group h (get_or words 0 []) asked.group_is other.group_is
 
-  not_refused_as : (name : RefusalName) (number column : ℕ) → RefusesAs name words number column → ⊥
-  not_refused_as Name.Long number column h = none_first words 1 number asked.short h.0
-  not_refused_as Name.Syntax number column (none, place, first, is) = elim first [
+  pub none_applies : NoneApplies RefusesAs words
+  none_applies Name.Long number column h = none_first words 1 number asked.short h.0
+  none_applies Name.Syntax number column (none, place, first, is) = elim first [
     | inl x ↦ x.0.none (group, asked.group_is)
     | inr x ↦ x.1.none (j, asked.symbol_is)
   ]
-  not_refused_as Name.Primes number column h = h
-  not_refused_as Name.Rank number column (h, k, other, more, p, q) =
+  none_applies Name.Primes number column h = h
+  none_applies Name.Rank number column (h, k, other, more, p, q) =
       let e : rank j ≡ rank k = ap rank (symbol_same h k other) in omega arith
-  not_refused_as (Name.NotSub first) number column h = h
-  not_refused_as Name.TooLarge number column (h, k, other, less, grows, p, q) =
+  none_applies (Name.NotSub first) number column h = h
+  none_applies Name.TooLarge number column (h, k, other, less, grows, p, q) =
       calm (subst (λ (g : Curie). CurieGrows j g) (sym (group_same h k other))
       (subst (λ (i : JahnSymbol). CurieGrows i h) (sym (symbol_same h k other)) grows))
-  not_refused_as Name.Twice number column h = h
-  not_refused_as Name.NoName number column h = h
-
-  pub not_refused : (r : ToolRefusal) → Refuses words r → ⊥
-  not_refused r h = not_refused_as r.name r.word r.column h
+  none_applies Name.Twice number column h = h
+  none_applies Name.NoName number column h = h

@@ -5,7 +5,7 @@
 --   any_mark      with time reversal alone a group holds both forms
 --   same_matrices    all of them are matrices of the symbol's group
 --   rows_fit, row_fits    the list of oriented parents, by computing
-use Rattle.std.proofs.Common.{[], ◌≡◌, ℕ, zero, suc, ◌+◌, ◌*◌, ◌<◌, ◌≤◌, Bool, true, false, cond, List, ◌∷◌, ◌++◌, refl, ap, sym, ◌∙◌, arith, subst, lit<, inl, inr}
+use Rattle.std.proofs.Common.{[], ◌≡◌, ℕ, zero, suc, ◌+◌, ◌*◌, ◌^◌, ◌<◌, ◌≤◌, Bool, true, false, cond, List, ◌∷◌, ◌++◌, refl, ap, sym, ◌∙◌, arith, subst, lit<, inl, inr}
 use Rattle.std.specs.Prelude.{Contains, IsTrue, ◌↔◌, nat_eq, nat_le, get_or, map}
 use Rattle.std.proofs.lemmas.Bool.Decides.{nat_tests}
 use Rattle.std.proofs.lemmas.List.Elements.{Contains-append_cases}
@@ -32,13 +32,13 @@ use Rattle.op_matrix.proofs.Frames.{also}
 use Rattle.op_matrix.proofs.Hexagonal.{implies, identity_at, common_of}
 use Rattle.op_matrix.proofs.Listed.{plain_listed, hex_listed, plain_one}
 use Rattle.op_matrix.proofs.Products.{product_code, frame_code, common, product_at, product_code_below}
-use Rattle.magnetic_groups.specs.Sets.{In, IsGroup, InverseIn, HaveFrame}
+use Rattle.magnetic_groups.specs.Sets.{HasForm, In, IsGroup, InverseIn, HaveFrame}
 use Rattle.magnetic_groups.proofs.Cosets.{group_inverse, group_product}
 use Rattle.magnetic_groups.proofs.Members.{member_framed}
 use Rattle.magnetic_groups.proofs.Reaching.{spanned_one}
 use Rattle.magnetic_groups.proofs.Spans.{span_common, span_product, span_member}
 use Rattle.magnetic_groups.proofs.SymbolFrames.{each_operator, operators_pass, grey_tail, tail_is, reversal_plain, generators_framed}
-use Rattle.group_names.specs.LookUps.{HasForm, row_of}
+use Rattle.group_names.specs.LookUps.{row_of}
 use Rattle.group_names.proofs.Forms.{partner, operators_part}
 
 -- ---- the matrices of a parent's group, by computing
@@ -276,7 +276,7 @@ module _ (t : GroupSymbol) (i : IsGroupSymbol t) where
 -- ---- the list of oriented parents, by computing
 abbrev pub digits_of : (ℕ → Bool) → ℕ → ℕ
 digits_of p zero = 0
-digits_of p (suc n) = 2 * digits_of p n + cond (p n) 1 0
+digits_of p (suc n) = cond (p n) 1 0 * 2 ^ n + digits_of p n
 
 abbrev row_test : ℕ → Setting → ℕ → List ℕ → Bool
 row_test n s m ls = also (nat_le 1 n) (also (nat_le n 42) (also (takes_setting n s) (nat_eq m (digits_of (is_in ls) 64))))

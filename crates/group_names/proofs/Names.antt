@@ -12,11 +12,11 @@ use Rattle.tensor_defs.specs.Names.{IsNamed}
 use Rattle.tensor_laws.proofs.Products.{generated_within}
 use Rattle.op_matrix.specs.Table.{nth_operation, operation_at}
 use Rattle.op_matrix.proofs.Facts.{nth_at}
-use Rattle.magnetic_groups.specs.Sets.{In, IsGroup}
+use Rattle.magnetic_groups.specs.Sets.{HasForm, In, IsGroup}
 use Rattle.magnetic_groups.proofs.Members.{member_framed}
 use Rattle.magnetic_groups.proofs.Spans.{span_member}
 use Rattle.magnetic_groups.proofs.SymbolFrames.{generators_framed, grey_tail}
-use Rattle.group_names.specs.LookUps.{HasForm, IsFirstNamed, HoldsAll, SameForms}
+use Rattle.group_names.specs.LookUps.{IsFirstNamed, HoldsAll, SameForms}
 use Rattle.group_names.proofs.Matrices.{At, framed_at, both_marks, any_mark}
 
 -- a group with the generators holds the symbol's group
@@ -115,18 +115,3 @@ test_told xs gens t grey has b r g i s e w q n is held = (
 )
 
 -- ---- the forms of a matrix
-pub even_form : (c : ℕ) (u : Operation) → u ≡ nth_operation (2 * c) → u ≡ operation_at c false
-even_form c u e = let s : 2 * c ≡ 2 * c + 0 = omega arith in e ∙ ap nth_operation s ∙ nth_at c false
-
-pub odd_form : (c : ℕ) (u : Operation) → u ≡ nth_operation (2 * c + 1) → u ≡ operation_at c true
-odd_form c u e = e ∙ nth_at c true
-
-pub form_found : (xs : List Operation) (c : ℕ) (u : Operation) (b : Bool) → u ≡ operation_at c false → (IsTrue b ↔ Contains xs u) → b ≡ true → IsTrue true ↔ HasForm (In xs) c
-form_found xs c u b e w t = (λ x. (false, subst (Contains xs) e (w.0 t)), λ f. refl)
-
-pub form_told : (xs : List Operation) (c : ℕ) (u v : Operation) (b d : Bool) → u ≡ operation_at c false → v ≡ operation_at c true → (IsTrue b ↔ Contains xs u) → (IsTrue d ↔ Contains xs v) → b ≡ false → IsTrue d ↔ HasForm (In xs) c
-form_told xs c u v b d e e' w w' f = (λ x. (true, subst (Contains xs) e' (w'.0 x)), λ h. by h.0 h.1)
-  where
-    by : (q : Bool) → Contains xs (operation_at c q) → IsTrue d
-    by true h = w'.1 (subst (Contains xs) (sym e') h)
-    by false h = absurd (false≢true (sym f ∙ w.1 (subst (Contains xs) (sym e) h)))

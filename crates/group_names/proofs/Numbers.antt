@@ -1,59 +1,63 @@
--- Numbers whose binary digits tell of numbers below a bound.
---   number_below     such a number is small
---   double_fits      twice it and one more fits 64 digits
+-- Numbers whose binary digits tell of numbers below 64.
 --   number_agrees    two facts with one number hold of the same numbers
 --   number_same      two facts that hold of the same numbers have one number
---   digits_number    the number of a test
-use Rattle.std.proofs.Common.{◌≡◌, ℕ, zero, suc, ◌+◌, ◌*◌, ◌^◌, ◌<◌, ◌≤◌, Bool, true, false, cond, refl, ap, sym, ◌∙◌, arith, subst, inl, inr}
-use Rattle.std.specs.Prelude.{IsTrue, ◌↔◌}
-use Rattle.std.proofs.Math.Pow.{pow_mono}
+--   digits_below, digits_number    the number of a test
+use Rattle.std.proofs.Common.{◌≡◌, ℕ, zero, suc, ◌+◌, ◌-◌, ◌*◌, ◌^◌, ◌<◌, ◌≤◌, Bool, true, false, cond, refl, ap, sym, ◌∙◌, arith, subst, ◌⊎◌, inl, inr}
+use Rattle.std.specs.Prelude.{◌↔◌}
+use Rattle.std.specs.Int.{bit_at}
 use Rattle.std.proofs.Math.Nat.{pow-succ'}
-use Rattle.std.proofs.lemmas.Bool.{cases_eq}
-use Rattle.list_laws.proofs.Tests.{same_truth}
+use Rattle.std.proofs.lemmas.Bool.{cases_lt, false≢true}
+use Rattle.std.proofs.lemmas.Nat.Bits.{bit_at-lt, bit_at_lowest, bit_at_cat_low, bit_at_cat_high, same_from_bits_below}
 use Rattle.group_names.specs.LookUps.{IsNumberOf}
 use Rattle.group_names.proofs.Matrices.{digits_of}
 
-bit_small : (b : Bool) → cond b 1 0 ≤ 1
-bit_small true = omega arith
-bit_small false = omega arith
+pub number_agrees : (P Q : ℕ → Type 0) (m : ℕ) → IsNumberOf P m → IsNumberOf Q m → (c : ℕ) → c < 64 → P c → Q c
+number_agrees P Q m r s c l p = (s c l).0 ((r c l).1 p)
 
-pub number_below : (P : ℕ → Type 0) (n m : ℕ) → IsNumberOf P n m → m < 2 ^ n
-number_below P zero m e = omega (arith, e)
-number_below P (suc n) m (h, b, r, e, t) =
-    let l : h < 2 ^ n = number_below P n h r in
-    let s : cond b 1 0 ≤ 1 = bit_small b in
-    rw (pow-succ' 2 n) (omega (arith, l, s, e))
+pub number_same : (P Q : ℕ → Type 0) (m k : ℕ) → m < 2 ^ 64 → k < 2 ^ 64 → IsNumberOf P m → IsNumberOf Q k → ((c : ℕ) → c < 64 → P c ↔ Q c) → m ≡ k
+number_same P Q m k h l r s w = same_from_bits_below 64 m k h l (λ c n. by c n (cases_lt (bit_at m c) 1) (cases_lt (bit_at k c) 1))
+  where
+    one : (n : ℕ) → n < 2 → 1 ≤ n → n ≡ 1
+    one n h l = omega arith
 
--- twice such a number and one more, below 64
-pub double_fits : (P : ℕ → Type 0) (n m b : ℕ) → IsNumberOf P n m → n < 64 → b ≤ 1 → 2 * m + b < 2 ^ 64
-double_fits P n m b r h s =
-    let l : m < 2 ^ n = number_below P n m r in
-    let p : 2 ^ n ≤ 2 ^ 63 = pow_mono {i = n} {j = 63} (omega arith) in
-    omega (arith, l, p, s)
+    by : (c : ℕ) → c < 64 → (bit_at m c < 1) ⊎ (1 ≤ bit_at m c) → (bit_at k c < 1) ⊎ (1 ≤ bit_at k c) → bit_at m c ≡ bit_at k c
+    by c n (inl a) (inl b) = omega arith
+    by c n (inr a) (inr b) = one (bit_at m c) (bit_at-lt m c) a ∙ sym (one (bit_at k c) (bit_at-lt k c) b)
+    by c n (inl a) (inr b) =
+        let e : bit_at m c ≡ 1 = (r c n).1 ((w c n).1 ((s c n).0 (one (bit_at k c) (bit_at-lt k c) b))) in
+        absurd (omega (arith, a, e))
+    by c n (inr a) (inl b) =
+        let e : bit_at k c ≡ 1 = (s c n).1 ((w c n).0 ((r c n).0 (one (bit_at m c) (bit_at-lt m c) a))) in
+        absurd (omega (arith, b, e))
 
-halved : (h k : ℕ) (b d : Bool) → 2 * h + cond b 1 0 ≡ 2 * k + cond d 1 0 → (h ≡ k) × (b ≡ d)
-halved h k true true e = (omega arith, refl)
-halved h k true false e = absurd (omega arith)
-halved h k false true e = absurd (omega arith)
-halved h k false false e = (omega arith, refl)
+digit_small : (b : Bool) (k n : ℕ) → k < n → cond b 1 0 * n + k < 2 * n
+digit_small true k n h = omega arith
+digit_small false k n h = omega arith
 
-pub number_agrees : (P Q : ℕ → Type 0) (n m : ℕ) → IsNumberOf P n m → IsNumberOf Q n m → (c : ℕ) → c < n → P c → Q c
-number_agrees P Q zero m r r' c l = absurd (omega arith)
-number_agrees P Q (suc n) m (h, b, r, e, t) (k, d, r', e', t') c l =
-    let s : (h ≡ k) × (b ≡ d) = halved h k b d (sym e ∙ e') in
-    elim (cases_eq c n) as (λ _. P c → Q c) [
-      | inl same ↦ λ p. subst Q (sym same) (t'.0 (sym s.1 ∙ t.1 (subst P same p)))
-      | inr other ↦ number_agrees P Q n h r (subst (IsNumberOf Q n) (sym s.0) r') c (omega arith)
-    ]
+pub digits_below : (p : ℕ → Bool) (n : ℕ) → digits_of p n < 2 ^ n
+digits_below p zero = omega arith
+digits_below p (suc n) = rw (pow-succ' 2 n) (digit_small (p n) (digits_of p n) (2 ^ n) (digits_below p n))
 
-pub number_same : (P Q : ℕ → Type 0) (n m k : ℕ) → IsNumberOf P n m → IsNumberOf Q n k → ((c : ℕ) → c < n → P c ↔ Q c) → m ≡ k
-number_same P Q zero m k r r' w = r ∙ sym r'
-number_same P Q (suc n) m k (h, b, r, e, t) (j, d, r', e', t') w =
-    let s : h ≡ j = number_same P Q n h j r r' (λ c l. w c (omega arith)) in
-    let v = w n (omega arith) in
-    let q : b ≡ d = same_truth b d (λ x. t'.1 (v.0 (t.0 x))) (λ x. t.1 (v.1 (t'.0 x))) in
-    e ∙ ap (λ x. 2 * x + cond b 1 0) s ∙ ap (λ x. 2 * j + cond x 1 0) q ∙ sym e'
+lowest : (b : Bool) → bit_at (cond b 1 0) 0 ≡ cond b 1 0
+lowest true = refl
+lowest false = refl
 
-pub digits_number : (p : ℕ → Bool) (n : ℕ) → IsNumberOf (λ c. p c ≡ true) n (digits_of p n)
-digits_number p zero = refl
-digits_number p (suc n) = (digits_of p n, p n, digits_number p n, refl, (λ h. h, λ h. h))
+digits_at : (p : ℕ → Bool) (n c : ℕ) → c < n → bit_at (digits_of p n) c ≡ cond (p c) 1 0
+digits_at p zero c h = absurd (omega arith)
+digits_at p (suc n) c h = next (cases_lt c n) (digits_at p n c)
+  where
+    next : (c < n) ⊎ (n ≤ c) → (c < n → bit_at (digits_of p n) c ≡ cond (p c) 1 0) →
+        bit_at (cond (p n) 1 0 * 2 ^ n + digits_of p n) c ≡ cond (p c) 1 0
+    next (inl l) r = bit_at_cat_low (cond (p n) 1 0) n (digits_of p n) c l ∙ r l
+    next (inr l) r =
+        let e : c ≡ n = omega arith in
+        let z : c - n ≡ 0 = omega arith in
+        bit_at_cat_high (cond (p n) 1 0) n (digits_of p n) c (digits_below p n) l
+        ∙ ap (bit_at (cond (p n) 1 0)) z ∙ lowest (p n) ∙ ap (λ x. cond (p x) 1 0) (sym e)
+
+digit_told : (b : Bool) (n : ℕ) → n ≡ cond b 1 0 → (n ≡ 1) ↔ (b ≡ true)
+digit_told true n e = (λ h. refl, λ h. e)
+digit_told false n e = (λ h. absurd (omega arith), λ h. absurd (false≢true h))
+
+pub digits_number : (p : ℕ → Bool) → IsNumberOf (λ c. p c ≡ true) (digits_of p 64)
+digits_number p c h = digit_told (p c) (bit_at (digits_of p 64) c) (digits_at p 64 c h)

@@ -2,14 +2,14 @@
 --   HoldsAll        each of the operations is an element
 --   IsFirstNamed    the first accepted symbol of a list with the elements of a group, or that there is none
 --   pattern         the symbol of a parent, a setting and a pattern of primes, given by its look-up number
---   HasForm         a set of operations has one of the 64 matrices, unprimed or primed
 --   SameForms       two sets have the same matrices
 --   HaveForms       the group of each symbol of a parent in a setting has the matrices of a set
---   IsNumberOf      the binary digits of a number, the most significant one for 0, tell of which numbers below n a fact
+--   IsNumberOf      the binary digits of a number, the least significant one for 0, tell of which numbers below 64 a fact
 --                   holds
 --   row_of          a row of the oriented parents, counted from 0
 --   oriented        the symbols of a row
 use Rattle.std.specs.Prelude.{◌≡◌, ℕ, zero, suc, ◌+◌, ◌*◌, ◌<◌, Bool, true, false, cond, List, [], ◌∷◌, ◌++◌, Option, Some, None, Contains, ◌↔◌, IsTrue}
+use Rattle.std.specs.Int.{bit_at}
 use Rattle.std.specs.List.{slice_index_or}
 use Rattle.tensor_defs.specs.declared.Setting.{Setting}
 use Rattle.tensor_defs.specs.declared.Setting.TheVariants.{Default}
@@ -18,7 +18,7 @@ use Rattle.tensor_defs.specs.Operation.{Operation}
 use Rattle.tensor_defs.specs.Symbols.{GroupSymbol, IsGroupSymbol, operator_count}
 use Rattle.tensor_defs.specs.Group.{InGroup}
 use Rattle.tensor_defs.specs.Names.{IsNamed, symbols_with, turned_bits}
-use Rattle.op_matrix.specs.Table.{operation_at}
+use Rattle.magnetic_groups.specs.Sets.{HasForm}
 use Rattle.group_names.specs.declared.oriented.Oriented.{Oriented}
 use Rattle.group_names.specs.declared.oriented.TheConstants.{ORIENTED}
 
@@ -36,9 +36,6 @@ pattern n s p =
     record { parent = n; primes = turned_bits (operator_count n) p; grey = false; setting = s } ∷ []
 
 -- ---- matrices
-abbrev pub HasForm : (Operation → Type 0) → ℕ → Type 0
-HasForm G c = (b : Bool) × G (operation_at c b)
-
 abbrev pub SameForms : (Operation → Type 0) → (Operation → Type 0) → Type 0
 SameForms G H = (c : ℕ) → c < 64 → HasForm G c ↔ HasForm H c
 
@@ -46,10 +43,8 @@ abbrev pub HaveForms : ℕ → Setting → (Operation → Type 0) → Type 0
 HaveForms n s H =
     (t : GroupSymbol) → IsGroupSymbol t → t.parent ≡ n → t.setting ≡ s → SameForms (InGroup t) H
 
-abbrev pub IsNumberOf : (ℕ → Type 0) → ℕ → ℕ → Type 0
-IsNumberOf P zero m = m ≡ 0
-IsNumberOf P (suc n) m =
-    (h : ℕ) × (b : Bool) × IsNumberOf P n h × (m ≡ 2 * h + cond b 1 0) × (IsTrue b ↔ P n)
+abbrev pub IsNumberOf : (ℕ → Type 0) → ℕ → Type 0
+IsNumberOf P m = (c : ℕ) → c < 64 → (bit_at m c ≡ 1) ↔ P c
 
 unfoldable pub row_of : ℕ → Oriented
 row_of k = slice_index_or ORIENTED k (record { parent = 1; setting = Default; matrices = 0 })

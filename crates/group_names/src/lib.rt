@@ -9,15 +9,15 @@ ghost use Rattle.tensor_defs.specs.Lists.{up_to};
 ghost use Rattle.tensor_defs.specs.Names.{IsNamed, IsNameOf, symbols_with, turned_bits};
 ghost use Rattle.tensor_defs.specs.Symbols.{IsGroupSymbol, operator_count, takes_setting};
 ghost use Rattle.group_symbol.specs.Readings.{symbol_of};
-ghost use Rattle.magnetic_groups.specs.Sets.{In};
-ghost use Rattle.group_names.specs.LookUps.{HasForm, HaveForms, HoldsAll, IsFirstNamed, IsNumberOf, SameForms, oriented, pattern, row_of};
+ghost use Rattle.magnetic_groups.specs.Sets.{HasForm, In};
+ghost use Rattle.group_names.specs.LookUps.{HaveForms, HoldsAll, IsFirstNamed, IsNumberOf, SameForms, oriented, pattern, row_of};
 
 mod oriented;
 #[cfg(test)]
 mod tests;
 
 use group_symbol::{Parent, Setting, SymbolTree, generators_of};
-use magnetic_groups::Group;
+use magnetic_groups::{Group, GroupMarks};
 use op_matrix::Op;
 use oriented::{matrices_at, parent_at, setting_at};
 use std::alloc::Global;
@@ -26,30 +26,8 @@ use std::alloc::Global;
 #[derive(Clone, Copy, Debug, PartialEq, Eq, Drop)]
 pub struct NoMemory;
 
-/// Whether an element has a matrix, unprimed or primed.
-fn has_matrix(group: &Group, matrix: usize) -> bool
-    requires { matrix < 64 }
-    ensures { IsTrue result ↔ HasForm (In group.now) matrix }
-{
-    if group.has(&Op::at_place(2 * matrix)) {
-        return true;
-    }
-    group.has(&Op::at_place(2 * matrix + 1))
-}
-
-/// The matrices of the elements: a binary digit for each of the 64, the most significant one for the identity.
-fn matrix_digits(group: &Group) -> u64
-    ensures { IsNumberOf (HasForm (In group.now)) 64 result }
-{
-    let mut number = 0;
-    for matrix in 0..64 {
-        number = 2 * number + has_matrix(group, matrix) as u64;
-    }
-    number
-}
-
 /// Whether all the operations are elements.
-fn holds_all(group: &Group, operations: &[Op]) -> bool
+fn holds_all(group: &GroupMarks, operations: &[Op]) -> bool
     ensures { IsTrue result ↔ HoldsAll group.now operations.now }
 {
     for operation in operations {
@@ -61,7 +39,7 @@ fn holds_all(group: &Group, operations: &[Op]) -> bool
 }
 
 /// Whether the symbol is accepted and its group is this one, where both have the same matrices.
-fn is_named(group: &Group, tree: &SymbolTree) -> bool
+fn is_named(group: &GroupMarks, tree: &SymbolTree) -> bool
     requires { SameForms (InGroup tree.now) (In group.now) }
     ensures { IsTrue result ↔ IsNamed tree.now (In group.now) }
 {
@@ -76,7 +54,7 @@ fn is_named(group: &Group, tree: &SymbolTree) -> bool
 
 /// The symbol of these parts, where it is accepted and its group is this one.
 fn try_symbol(
-    group: &Group,
+    group: &GroupMarks,
     parent: Parent,
     primes: u8,
     grey: bool,
@@ -123,7 +101,7 @@ fn patterns(operators: usize) -> usize
 }
 
 /// The first name among the symbols with primes of a parent and a setting.
-fn name_primed(group: &Group, parent: Parent, setting: Setting) -> Option<SymbolTree>
+fn name_primed(group: &GroupMarks, parent: Parent, setting: Setting) -> Option<SymbolTree>
     requires first { 1 ≤ parent }
     requires last { parent ≤ 42 }
     requires takes { takes_setting parent setting ≡ true }
@@ -141,7 +119,7 @@ fn name_primed(group: &Group, parent: Parent, setting: Setting) -> Option<Symbol
 }
 
 /// The first name among the symbols of a parent and a setting.
-fn name_with(group: &Group, parent: Parent, setting: Setting) -> Option<SymbolTree>
+fn name_with(group: &GroupMarks, parent: Parent, setting: Setting) -> Option<SymbolTree>
     requires first { 1 ≤ parent }
     requires last { parent ≤ 42 }
     requires takes { takes_setting parent setting ≡ true }
@@ -159,9 +137,9 @@ fn name_with(group: &Group, parent: Parent, setting: Setting) -> Option<SymbolTr
 
 /// The first name among the symbols of a row of the oriented parents, where the group has the matrices of the row: else
 /// none of them names it.
-fn name_oriented(group: &Group, matrices: u64, place: usize) -> Option<SymbolTree>
+fn name_oriented(group: &GroupMarks, matrices: u64, place: usize) -> Option<SymbolTree>
     requires listed { place < 61 }
-    requires counted { IsNumberOf (HasForm (In group.now)) 64 matrices }
+    requires counted { IsNumberOf (HasForm (In group.now)) matrices }
     ensures { IsFirstNamed (In group.now) (oriented (row_of place)) result }
 {
     if matrices_at(place) != matrices {
@@ -170,11 +148,11 @@ fn name_oriented(group: &Group, matrices: u64, place: usize) -> Option<SymbolTre
     name_with(group, parent_at(place), setting_at(place))
 }
 
-/// The first name of all.
-fn first_name(group: &Group) -> Option<SymbolTree>
+/// The first accepted symbol whose group has these elements; none exactly where there is none.
+pub fn first_name(group: &GroupMarks) -> Option<SymbolTree>
     ensures { IsNameOf result (In group.now) }
 {
-    let matrices = matrix_digits(group);
+    let matrices = group.matrices();
     for place in 0..61 {
         if let Some(tree) = name_oriented(group, matrices, place) {
             return Some(tree);
@@ -187,5 +165,5 @@ fn first_name(group: &Group) -> Option<SymbolTree>
 pub fn name_of(_alloc: Global, group: &Group) -> Result<Option<SymbolTree>, NoMemory>
     ensures { IfOk result (λ o. IsNameOf o (In group.now)) }
 {
-    Ok(first_name(group))
+    Ok(first_name(&group.marks()))
 }

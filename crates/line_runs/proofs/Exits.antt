@@ -3,9 +3,10 @@
 --   Facing, facing_break, facing_last    the run stands before the answer of a line
 --   stops_reading, passes_limit, lacks_memory, stops_writing    it stops in the middle
 --   ends, ends_in_line    it stops between lines, and with a line begun
---   stops_at_break, stops_at_end, finish_end, finish_line    the outcome at the end
+--   stops_at_break, still_fails, stops_at_end    it stops at an answer
+--   finish_end, finish_line    the outcome at the end
 --   complete, read_fault, write_fault, never_usage    what the outcome tells of the end
-use Rattle.std.proofs.Common.{◌≡◌, inl, inr, ℕ, ◌+◌, ◌<◌, ◌≤◌, Bool, true, false, ◌||◌, ◌⊎◌, IsTrue, Ok, Err, ◌↔◌, List}
+use Rattle.std.proofs.Common.{◌≡◌, ⊎_elim, inl, inr, ℕ, ◌+◌, ◌<◌, ◌≤◌, Bool, true, false, ◌||◌, ◌⊎◌, IsTrue, Ok, Err, ◌↔◌, List}
 use Rattle.std.proofs.Common.{[], ◌∷◌, ◌++◌, length, take, Some, None, refl, sym, ◌∙◌, ap, subst, arith, append_assoc}
 use Rattle.std.proofs.Common.{length-append}
 use Rattle.std.proofs.lemmas.List.{append-nil, take_at}
@@ -19,7 +20,7 @@ use Rattle.text_defs.specs.declared.Format.{Format}
 use Rattle.text_defs.specs.Answers.{IsAnswer}
 use Rattle.text_defs.specs.Refusals.{IsRefused}
 use Rattle.line_runs.specs.Reads.{HasNoBreak, Stands}
-use Rattle.line_runs.specs.Answering.{IsQuick, AreQuick}
+use Rattle.line_runs.specs.Answering.{Appends, IsQuick, AreQuick}
 use Rattle.line_runs.specs.Runs.{SomeLineRefused, NoLineRefused, IsAnswered, StopsReading, StopsWriting, PassesLimit, LacksMemory, Leaves, IsComplete}
 use Rattle.line_runs.specs.declared.outcome.Outcome.{Outcome}
 use Rattle.line_runs.specs.declared.outcome.Outcome.TheVariants.{Answered, SomeRefused, Usage, ReadFault, WriteFault}
@@ -28,7 +29,8 @@ use Rattle.line_runs.proofs.AnswerLemmas.{answers-push, told_in}
 use Rattle.line_runs.specs.declared.outcome.Stop.{Stop}
 use Rattle.line_runs.specs.declared.outcome.Stop.TheVariants.{Memory, Read, Write, Limit}
 use Rattle.line_runs.specs.Outcomes.{outcome_at}
-use Rattle.line_runs.specs.Stops.{StopsAt}
+use Rattle.line_runs.specs.Stops.{StopsAt, Waits}
+use Rattle.line_runs.proofs.Owed.{owed, owed_none, part_of, Fails, fails_none, settled}
 use Rattle.line_runs.proofs.Progress.{SoFar, Break, Bytes, consumes_more, consumes_kept, lines-one, all_at, yes_more, no_more, line_stands}
 
 -- the lines of the input are those that are answered, the next one and others
@@ -257,40 +259,68 @@ module _ {before now : Bytes} {format : Format} {total number : ℕ} {skipping r
         lines = subst (λ (f : Format). Lines f (lines_of input)) told (subst (λ (ls : List (List ℕ)). Lines format ls) (sym lines) such);
       }
 
-  -- the run stops at an answer: of a line that is held with its LF, or of the last one
-  stops_at : (input line bytes : List ℕ) (left now' : Bytes)
-      (s : SoFar (Some input) left before now format total number skipping refused held) → Facing s input line →
-      length s.part ≤ length line → length held ≤ 4001
-      → Stands skipping bytes line → (stop : Stop) → StopsAt stop format number skipping bytes now now' → (limit : ℕ) →
-      Leaves limit (outcome_at (Err stop)) input left before now'
-  stops_at input line bytes left now' s facing longer small at Memory stopped limit =
-      subst (λ (n : Bytes). LacksMemory input left before n) (sym stopped.0) (lacks_memory input line left s facing (stopped.1 line at))
-  stops_at input line bytes left now' s facing longer small at Write stopped limit =
-      stops_writing input line left now' s facing longer small stopped.0 (stopped.2 line at) stopped.1
-  stops_at input line bytes left now' s facing longer small at Read stopped limit = absurd stopped
-  stops_at input line bytes left now' s facing longer small at Limit stopped limit = absurd stopped
+-- ---- the run stops at an answer: of a line that is held with its LF, or of the last one; others may wait
+module _ {before told : Bytes} {format : Format} {total number : ℕ} {skipping refused : Bool} {held : List ℕ} (now : Bytes)
+    (waiting : List ℕ) (is : told ≡ owed now waiting) where
+  -- a front of what waits and of the answer was written
+  part_stops : (input line bytes all : List ℕ) (left now' : Bytes)
+      (s : SoFar (Some input) left before told format total number skipping refused held) → Facing s input line →
+      length s.part ≤ length line → length held ≤ 4001 → Stands skipping bytes line → Fails (Some input) left before now waiting
+      → Appends format number skipping bytes waiting all → GrowsInPart now now' all → StopsWriting input left before now'
+  part_stops input line bytes all left now' s facing longer small at fails adds part =
+      ⊎_elim (λ few. fails now' few)
+      (λ many. stops_writing input line left now' s facing longer small adds.answer (adds.is_answer line at)
+      (subst (λ (b : Bytes). GrowsInPart b now' adds.answer) (sym is) many))
+      (part_of now now' waiting adds.answer (subst (λ (l : List ℕ). GrowsInPart now now' l) adds.grown part))
 
-  pub stops_at_break : (ended : Result Bool Stop) (stop : Stop) → ended ≡ Err stop →
-      (limit : ℕ) (first left now' : Bytes) (s : SoFar first left before now format total number skipping refused held)
-      (line rest : List ℕ) → Break held line rest → length held ≤ 4001
-      → ((more : List (List ℕ)) → format ≡ format_told (s.lines ++ (s.part ++ line) ∷ more)) →
-      StopsAt stop format number skipping line now now' → IfSome first (λ input. Leaves limit (outcome_at ended) input left before now')
-  stops_at_break ended stop of limit None left now' s line rest at small tells stopped = tt
-  stops_at_break ended stop of limit (Some input) left now' s line rest at small tells stopped =
+  stops_at : (input line bytes : List ℕ) (left now' : Bytes)
+      (s : SoFar (Some input) left before told format total number skipping refused held) → Facing s input line →
+      length s.part ≤ length line → length held ≤ 4001 → Stands skipping bytes line → Fails (Some input) left before now waiting
+      → (stop : Stop) → StopsAt stop format number skipping bytes waiting now now' → (limit : ℕ)
+      → Leaves limit (outcome_at (Err stop)) input left before now'
+  unfolding settled
+  stops_at input line bytes left now' s facing longer small at fails Memory stopped limit =
+      lacks_memory input line left (settled s now waiting is now' stopped.0)
+      (record { more = facing.more; split = facing.split; format_is = facing.format_is }) (stopped.1 line at)
+  stops_at input line bytes left now' s facing longer small at fails Write (inl part) limit = fails now' part
+  stops_at input line bytes left now' s facing longer small at fails Write (inr of) limit =
+      part_stops input line bytes of.0 left now' s facing longer small at fails of.1 of.2
+  stops_at input line bytes left now' s facing longer small at fails Read stopped limit = absurd stopped
+  stops_at input line bytes left now' s facing longer small at fails Limit stopped limit = absurd stopped
+
+  pub stops_at_break : (ended : Result Bool Stop) (stop : Stop) → ended ≡ Err stop → (limit : ℕ) (first left now' : Bytes)
+      (s : SoFar first left before told format total number skipping refused held) (line rest : List ℕ) → Break held line rest
+      → length held ≤ 4001 → ((more : List (List ℕ)) → format ≡ format_told (s.lines ++ (s.part ++ line) ∷ more))
+      → Fails first left before now waiting → StopsAt stop format number skipping line waiting now now'
+      → IfSome first (λ input. Leaves limit (outcome_at ended) input left before now')
+  stops_at_break ended stop of limit None left now' s line rest at small tells fails stopped = tt
+  stops_at_break ended stop of limit (Some input) left now' s line rest at small tells fails stopped =
       subst (λ (e : Result Bool Stop). Leaves limit (outcome_at e) input left before now') (sym of)
       (stops_at input (s.part ++ line) line left now' s (facing_break input left s line rest at.cut at.none tells)
-      (omega (arith, length-append s.part line)) small (line_stands s line) stop stopped limit)
+      (omega (arith, length-append s.part line)) small (line_stands s line) fails stop stopped limit)
 
-  pub stops_at_end : (ended : Result Bool Stop) (stop : Stop) → ended ≡ Err stop →
-      (limit : ℕ) (first left now' : Bytes) (s : SoFar first left before now format total number skipping refused held)
-      → HasNoBreak held → 0 < length (s.part ++ held) → IsAtEnd left → length held ≤ 4001
-      → ((more : List (List ℕ)) → format ≡ format_told (s.lines ++ (s.part ++ held) ∷ more)) →
-      StopsAt stop format number skipping held now now' → IfSome first (λ input. Leaves limit (outcome_at ended) input left before now')
-  stops_at_end ended stop of limit None left now' s none some end small tells stopped = tt
-  stops_at_end ended stop of limit (Some input) left now' s none some end small tells stopped =
-      subst (λ (e : Result Bool Stop). Leaves limit (outcome_at e) input left before now') (sym of)
-      (stops_at input (s.part ++ held) held left now' s (facing_last input left s none some end tells)
-      (omega (arith, length-append s.part held)) small (line_stands s held) stop stopped limit)
+  -- the next answer waits too, or all were written
+  pub still_fails : (first left now' : Bytes) (s : SoFar first left before told format total number skipping refused held)
+      (line rest all waiting' : List ℕ) → Break held line rest → length held ≤ 4001
+      → ((more : List (List ℕ)) → format ≡ format_told (s.lines ++ (s.part ++ line) ∷ more)) → Fails first left before now waiting
+      → Appends format number skipping line waiting all → Waits all waiting' now now' → Fails first left before now' waiting'
+  still_fails first left now' s line rest all waiting' at small tells fails adds (inr written) = fails_none first left before now' waiting' written.0
+  still_fails None left now' s line rest all waiting' at small tells fails adds (inl waits) = λ after part. tt
+  still_fails (Some input) left now' s line rest all waiting' at small tells fails adds (inl waits) = λ after part.
+      part_stops input (s.part ++ line) line all left after s (facing_break input left s line rest at.cut at.none tells)
+      (omega (arith, length-append s.part line)) small (line_stands s line) fails adds
+      (subst (λ (b : Bytes). GrowsInPart b after all) waits.0 (subst (λ (l : List ℕ). GrowsInPart now' after l) waits.1 part))
+
+pub stops_at_end : {before now : Bytes} {format : Format} {total number : ℕ} {skipping refused : Bool} {held : List ℕ}
+    (result : Result Bool Stop) (stop : Stop) → result ≡ Err stop → (limit : ℕ) (first left now' : Bytes)
+    (s : SoFar first left before now format total number skipping refused held) → HasNoBreak held → 0 < length (s.part ++ held)
+    → IsAtEnd left → length held ≤ 4001 → ((more : List (List ℕ)) → format ≡ format_told (s.lines ++ (s.part ++ held) ∷ more))
+    → StopsAt stop format number skipping held [] now now' → IfSome first (λ input. Leaves limit (outcome_at result) input left before now')
+stops_at_end result stop of limit None left now' s none some end small tells stopped = tt
+stops_at_end {before} {now} {held = held} result stop of limit (Some input) left now' s none some end small tells stopped =
+    subst (λ (e : Result Bool Stop). Leaves limit (outcome_at e) input left before now') (sym of)
+    (stops_at now [] (sym (owed_none now)) input (s.part ++ held) held left now' s (facing_last input left s none some end tells)
+    (omega (arith, length-append s.part held)) small (line_stands s held) (fails_none (Some input) left before now [] refl) stop stopped limit)
 
 -- ---- the outcome at the end
 

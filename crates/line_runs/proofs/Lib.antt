@@ -4,3 +4,4 @@ mod AnswerLemmas
 mod Cuts
 mod Progress
 mod Exits
+mod Owed

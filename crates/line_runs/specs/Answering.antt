@@ -2,14 +2,16 @@
 --   Ends            a list grew by the answer of the line, and the end tells whether it is passed or refused
 --   IsQuick         the answer of the line needs no memory beyond the room that is taken before the first read
 --   AreQuick        so does that of each of some lines that are numbered from a number
+--   Appends         a list grew by the answer of a line, of which these bytes are at hand
 --   IsTold          the format of an input, told at a line: at the first one by its bytes, later as before
 -- Source: this project's own.
-use Rattle.std.specs.Prelude.{◌≡◌, ◌≢◌, ◌⊎◌, ◌↔◌, ℕ, ◌+◌, List, [], ◌∷◌, ◌++◌}
+use Rattle.std.specs.Prelude.{◌≡◌, ◌≢◌, ◌⊎◌, ◌↔◌, ℕ, Bool, ◌+◌, List, [], ◌∷◌, ◌++◌}
 use Rattle.text_defs.specs.declared.Format.{Format}
 use Rattle.text_defs.specs.Refusals.{IsPassed, IsRefused, Refuses}
 use Rattle.text_defs.specs.Refusals.RefusalWord.{Long, Syntax}
 use Rattle.text_defs.specs.Answers.{IsAnswer}
 use Rattle.text_defs.specs.Lines.{format_told}
+use Rattle.line_runs.specs.Reads.{Stands}
 use Rattle.line_runs.specs.declared.lines.LineEnd.{LineEnd}
 use Rattle.line_runs.specs.declared.lines.LineEnd.TheVariants.{Empty, Refused}
 
@@ -28,6 +30,11 @@ IsQuick format number line =
 abbrev pub AreQuick : Format → ℕ → List (List ℕ) → Type 0
 AreQuick format number [] = Unit {0}
 AreQuick format number (l ∷ ls) = IsQuick format number l × AreQuick format (number + 1) ls
+
+pub record Appends (format : Format) (number : ℕ) (is_long : Bool) (held old new : List ℕ) : Type 0 where
+  pub answer : List ℕ
+  pub grown : new ≡ old ++ answer
+  pub is_answer : (line : List ℕ) → Stands is_long held line → IsAnswer format number line answer
 
 abbrev pub IsTold : ℕ → Format → List ℕ → Format → Type 0
 IsTold number before line format =

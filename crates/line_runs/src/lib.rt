@@ -1,5 +1,5 @@
-//! The lines of an input, each answered as it comes: one buffer for the line that is read, the refusals, and the run over a
-//! source and a sink. What answers a line is given.
+//! The lines of an input, answered as they come: one buffer for the line that is read, one for the answers that wait to be
+//! written, the refusals, and the run over a source and a sink. What answers a line is given.
 #![tactic(auto)]
 
 mod buffer;
@@ -7,6 +7,7 @@ mod lines;
 mod outcome;
 mod refusals;
 mod top;
+mod waiting;
 
 pub use lines::{AnswersLines, LineEnd, is_heading_line, refuse, refuse_long};
 pub use outcome::Outcome;

@@ -4,7 +4,7 @@ ghost use Rattle.text_defs.specs.Answers.{IsAnswer};
 ghost use Rattle.tensor_defs.specs.Lists.{same_numbers_in};
 ghost use Rattle.text_defs.specs.Refusals.{IsRefused, heading, refusal_text};
 ghost use Rattle.text_defs.specs.Requests.{longest_line};
-ghost use Rattle.line_runs.specs.Answering.{Ends, IsQuick, IsTold};
+ghost use Rattle.line_runs.specs.Answering.{Appends, Ends, IsQuick, IsTold};
 ghost use Rattle.line_runs.specs.Reads.{Stands};
 ghost use Rattle.line_runs.specs.Words.{word_of};
 
@@ -110,8 +110,8 @@ fn is_too_long(format: Format, is_long: bool, line: &[u8]) -> bool
     line.len() > longest(format)
 }
 
-/// Makes the answer of a line, or of a line that is too long in each format of which only the end is at hand.
-/// Tells whether it is refused.
+/// Appends the answer of a line, or of a line that is too long in each format of which only the end is at hand.
+/// Tells whether it is refused. After `NoMemory` the list is as before.
 pub fn make_answer<A: AnswersLines>(
     alloc: Global,
     format: Format,
@@ -120,13 +120,13 @@ pub fn make_answer<A: AnswersLines>(
     line: &[u8],
     out: &mut Vec<u8>,
 ) -> Result<bool, NoMemory>
-    requires room { 96 ≤ vec_capacity out.old }
-    ensures answer { OnOk result ((whole : List ℕ) → Stands is_long line.now whole → IsAnswer format number whole out.new.items) }
+    requires room { vec_len out.old + 96 ≤ vec_capacity out.old }
+    ensures answer { OnOk result (Appends format number is_long line.now out.old.items out.new.items) }
     ensures refused { IfOk result (λ refused. (whole : List ℕ) → Stands is_long line.now whole → (IsTrue refused ↔ IsRefused format number whole)) }
     ensures memory { OnErr result ((whole : List ℕ) → Stands is_long line.now whole → IsQuick format number whole → ⊥) }
-    ensures room { 96 ≤ vec_capacity out.new }
+    ensures err { OnErr result (out.new.items ≡ out.old.items) }
+    ensures capacity { vec_capacity out.old ≤ vec_capacity out.new }
 {
-    out.clear();
     if is_too_long(format, is_long, line) {
         refuse_long(format, number, out)?;
         return Ok(true);

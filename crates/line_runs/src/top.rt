@@ -1,53 +1,17 @@
 //! The run over a source and a sink.
-ghost use Rattle.std.specs.Prelude.{◌≡◌, ◌↔◌, ◌+◌, ◌<◌, ◌≤◌, ◌++◌, [], List, ℕ, length, IsTrue, IfOk, IfErr, IsErrOf, OnOk, vec_capacity, true, false, MatchBool, ◌⊎◌};
+ghost use Rattle.std.specs.Prelude.{◌≡◌, ◌↔◌, ◌+◌, ◌<◌, ◌≤◌, ◌++◌, [], List, ℕ, length, IsTrue, IfOk, IfErr, IsErrOf, OnOk, vec_capacity, vec_len, true, false, MatchBool, ◌⊎◌};
 ghost use Rattle.std.specs.Option.{IfSome};
-ghost use Rattle.tensor_ports.specs.Bytes.{Grows};
 ghost use Rattle.tensor_ports.specs.Causes.{Rose};
-ghost use Rattle.line_runs.specs.Reads.{Stands};
 ghost use Rattle.line_runs.specs.Outcomes.{outcome_at};
-ghost use Rattle.text_defs.specs.Answers.{IsAnswer};
-ghost use Rattle.text_defs.specs.Refusals.{IsRefused};
-ghost use Rattle.line_runs.specs.Stops.{StopsAt};
 ghost use Rattle.line_runs.specs.Runs.{Leaves, IsComplete};
 
 use crate::buffer::{LineBuffer, More, first_break, read_more};
-use crate::lines::{AnswersLines, format_at, make_answer};
+use crate::lines::{AnswersLines, format_at};
 use crate::outcome::{Outcome, Stop, outcome_of};
+use crate::waiting::{ROOM, add_answer, write_answer, write_waiting};
 use std::alloc::Global;
-use tensor_ports::{Sink, Source, write_all_of};
+use tensor_ports::{Sink, Source};
 use text_defs::Format;
-
-/// Room for the text of a refusal.
-const REFUSAL: usize = 96;
-
-/// Makes the answer of a line, and writes it. Tells whether the line is refused.
-fn write_answer<A: AnswersLines, O: Sink>(
-    alloc: Global,
-    format: Format,
-    number: u64,
-    is_long: bool,
-    line: &[u8],
-    out: &mut Vec<u8>,
-    sink: &mut O,
-) -> Result<bool, Stop>
-    requires room { 96 ≤ vec_capacity out.old }
-    ensures ok { IfOk result (λ refused. (answer : List ℕ) × Grows (O.written sink.old) (O.written sink.new) answer
-        × ((whole : List ℕ) → Stands is_long line.now whole → IsAnswer format number whole answer)
-        × ((whole : List ℕ) → Stands is_long line.now whole → (IsTrue refused ↔ IsRefused format number whole))) }
-    ensures err { IfErr result (λ stop. StopsAt stop format number is_long line.now (O.written sink.old) (O.written sink.new)) }
-    ensures calm { IfErr result (λ stop. stop ≡ Stop.Memory → O.faults sink.new ≡ O.faults sink.old) }
-    ensures quiet { OnOk result (O.faults sink.new ≡ O.faults sink.old) }
-    ensures rose { IsErrOf result Stop.Write → Rose (O.faults sink.old) (O.faults sink.new) }
-    ensures room { 96 ≤ vec_capacity out.new }
-{
-    match make_answer::<A>(alloc, format, number, is_long, line, out) {
-        Err(_) => Err(Stop::Memory),
-        Ok(refused) => match write_all_of(sink, out) {
-            Ok(()) => Ok(refused),
-            Err(_) => Err(Stop::Write),
-        },
-    }
-}
 
 /// Whether no byte of a line was taken that isn't answered.
 fn is_between(skipping: bool, held: &[u8]) -> bool
@@ -74,7 +38,7 @@ fn answer_all<A: AnswersLines, I: Source, O: Sink>(
     let Ok(mut buffer) = LineBuffer::new(alloc) else {
         return Err(Stop::Memory);
     };
-    let Ok(mut out) = Vec::with_capacity(alloc, REFUSAL) else {
+    let Ok(mut waiting) = Vec::with_capacity(alloc, ROOM) else {
         return Err(Stop::Memory);
     };
     let mut total = 0u64;
@@ -87,14 +51,23 @@ fn answer_all<A: AnswersLines, I: Source, O: Sink>(
             Some(at) => {
                 let line = buffer.front(at);
                 format = format_at(format, number, skipping, line);
-                refused |= write_answer::<A, O>(
-                    alloc, format, number, skipping, line, &mut out, sink,
+                refused |= add_answer::<A, O>(
+                    alloc,
+                    format,
+                    number,
+                    skipping,
+                    line,
+                    &mut waiting,
+                    sink,
                 )?;
                 buffer.remove(at + 1);
                 number += 1;
                 skipping = false;
             }
             None => {
+                let Ok(()) = write_waiting(&mut waiting, sink) else {
+                    return Err(Stop::Write);
+                };
                 skipping |= buffer.let_go();
                 match read_more(&mut buffer, source, limit - total) {
                     Err(_) => return Err(Stop::Read),
@@ -107,7 +80,13 @@ fn answer_all<A: AnswersLines, I: Source, O: Sink>(
                         }
                         format = format_at(format, number, skipping, held);
                         let last = write_answer::<A, O>(
-                            alloc, format, number, skipping, held, &mut out, sink,
+                            alloc,
+                            format,
+                            number,
+                            skipping,
+                            held,
+                            &mut waiting,
+                            sink,
                         )?;
                         return Ok(refused | last);
                     }

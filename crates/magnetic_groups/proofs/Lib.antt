@@ -8,3 +8,5 @@ pub mod SymbolFrames
 pub mod Meeting
 pub mod Doubling
 pub mod Taking
+mod Digits
+mod MarkedGroups

@@ -3,8 +3,8 @@
 --   marked_rising    it rises
 --   marked_first    its first member
 --   marked_length    and its length
-use Rattle.std.proofs.Common.{◌≡◌, ℕ, zero, suc, ◌+◌, ◌<◌, ◌≤◌, Bool, true, false, List, [], ◌∷◌, ◌++◌}
-use Rattle.std.proofs.Common.{length, refl, sym, ◌∙◌, arith, subst, inl, inr, add-one}
+use Rattle.std.proofs.Common.{◌≡◌, ℕ, zero, suc, ◌+◌, ◌*◌, ◌<◌, ◌≤◌, ◌⊎◌, Bool, true, false, List, [], ◌∷◌, ◌++◌}
+use Rattle.std.proofs.Common.{length, refl, ap, sym, ◌∙◌, arith, subst, inl, inr, add-one}
 use Rattle.std.specs.Prelude.{nat_lt, Contains, IsTrue, slice_get, Some}
 use Rattle.std.proofs.lemmas.Bool.Decides.{nat_tests}
 use Rattle.std.proofs.lemmas.List.{length-append}
@@ -27,6 +27,19 @@ marked_next n m e = rw (add-one, e) refl
 pub marked_past : (n : ℕ) (m : List Bool) → mark_at m n ≡ false → marked_below (n + 1) m ≡ marked_below n m
 unfolding marked_below
 marked_past n m e = rw (add-one, e) refl
+
+-- two places that aren't marked
+pub marked_past_both : (n : ℕ) (m : List Bool) → ¬ ((mark_at m (2 * n) ≡ true) ⊎ (mark_at m (2 * n + 1) ≡ true)) →
+    marked_below (2 * (n + 1)) m ≡ marked_below (2 * n) m
+marked_past_both n m h =
+    let e : 2 * (n + 1) ≡ 2 * n + 1 + 1 = omega arith in
+    ap (λ k. marked_below k m) e
+    ∙ marked_past (2 * n + 1) m (not_marked (mark_at m (2 * n + 1)) (λ t. h (inr t)))
+    ∙ marked_past (2 * n) m (not_marked (mark_at m (2 * n)) (λ t. h (inl t)))
+  where
+    not_marked : (b : Bool) → (b ≡ true → ⊥) → b ≡ false
+    not_marked true f = absurd (f refl)
+    not_marked false f = refl
 
 -- marked below n
 abbrev pub Below : ℕ → List Bool → Operation → Type 0

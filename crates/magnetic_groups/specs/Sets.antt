@@ -2,6 +2,7 @@
 --   HaveFrame      all plain, or all hexagonal
 --   FitsFrame      an operation that is plain as all members are, or hexagonal as all members are
 --   Spanned        all products of finite lists of members
+--   HasForm        a set of operations has one of the 64 matrices, unprimed or primed
 --   IsGroup        a list of operations that is a group, in the order of operations
 --   IsKept         what the parts of a group have to do with one another
 --   TellsOutside   the least place of a member that isn't in the other list, or that there is none
@@ -14,6 +15,7 @@ use Rattle.tensor_defs.specs.Operation.{Operation, IsProduct, identity}
 use Rattle.tensor_defs.specs.OperationOrder.{comes_before}
 use Rattle.tensor_defs.specs.Group.{Generated, IsBelow}
 use Rattle.tensor_defs.specs.Frames.{IsPlain, IsHexagonal, AllOf}
+use Rattle.op_matrix.specs.Table.{operation_at}
 use Rattle.magnetic_groups.specs.Marks.{marked_below}
 
 -- the set of the members of a list
@@ -28,6 +30,9 @@ FitsFrame xs g = (IsPlain g × AllOf (In xs) IsPlain) ⊎ (IsHexagonal g × AllO
 
 abbrev pub Spanned : List Operation → Operation → Type 0
 Spanned gens k = Generated (In gens) k
+
+abbrev pub HasForm : (Operation → Type 0) → ℕ → Type 0
+HasForm G c = (b : Bool) × G (operation_at c b)
 
 -- the members hold an inverse of g
 abbrev pub InverseIn : (Operation → Type 0) → Operation → Type 0

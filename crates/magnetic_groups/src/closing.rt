@@ -1,31 +1,31 @@
 //! The closing of generators: all products of finite lists of them.
-ghost use Rattle.std.specs.Prelude.{◌≡◌, ◌+◌, ◌<◌, ℕ, ◌↔◌, IfOk, length, List, Contains, ◌++◌, ◌∷◌, []};
+ghost use Rattle.std.specs.Prelude.{◌≡◌, ◌+◌, ◌<◌, ◌≤◌, ℕ, ◌↔◌, IfOk, length, List, Contains, ◌++◌, ◌∷◌, []};
 ghost use Rattle.tensor_defs.specs.Operation.{Operation};
 ghost use Rattle.tensor_defs.specs.Lists.{IsListing};
 ghost use Rattle.tensor_defs.specs.OperationOrder.{comes_before};
 ghost use Rattle.magnetic_groups.specs.Marks.{marked_below, Added, Grows, IsClosed, IsClosing, IsDone, Reached, unmarked};
-ghost use Rattle.magnetic_groups.specs.Sets.{HaveFrame, Spanned, IsGroup};
+ghost use Rattle.magnetic_groups.specs.Sets.{HaveFrame, IsKept, Spanned};
 
 use crate::Group;
 use crate::found::Found;
+use crate::marks::Marks;
 use op_matrix::Op;
 use std::alloc::{AllocError, Global};
 
 /// Marks the operation and puts it at the list's end, where it isn't marked yet.
-pub fn add(op: Op, marks: &mut [bool], found: &mut Found)
+pub fn add(op: Op, marks: &mut Marks, found: &mut Found)
     requires sized { length marks.old ≡ 128 }
     requires counted { length found.old + unmarked marks.old ≡ 128 }
     ensures { Added op marks.old found.old marks.new found.new }
 {
-    let place = op.place();
-    if !marks[place] {
-        marks[place] = true;
+    if !marks.has(&op) {
+        marks.mark(&op);
         found.push(op);
     }
 }
 
 /// Adds the products of all generators with the element.
-fn reach(generators: &[Op], element: &Op, marks: &mut [bool], found: &mut Found)
+fn reach(generators: &[Op], element: &Op, marks: &mut Marks, found: &mut Found)
     requires frame { HaveFrame generators.now }
     requires closing { IsClosing generators.now marks.old found.old }
     requires reached { Reached marks.old element.now }
@@ -40,7 +40,7 @@ fn reach(generators: &[Op], element: &Op, marks: &mut [bool], found: &mut Found)
 
 /// Closes under the products with the generators, where the first `done` elements are done. Each element found is
 /// multiplied by the generators alone.
-pub fn finish(generators: &[Op], done: usize, marks: &mut [bool], found: &mut Found)
+pub fn finish(generators: &[Op], done: usize, marks: &mut Marks, found: &mut Found)
     requires frame { HaveFrame generators.now }
     requires closed { IsClosed generators.now done marks.old found.old }
     ensures closed { IsClosed generators.now (length found.new) marks.new found.new }
@@ -54,15 +54,48 @@ pub fn finish(generators: &[Op], done: usize, marks: &mut [bool], found: &mut Fo
     }
 }
 
-/// The operations at the marked places, in their order, with room for so many at first.
-fn list_marked(alloc: Global, marks: &[bool], room: usize) -> Result<Vec<Op>, AllocError>
-    requires { length marks.now ≡ 128 }
+/// The marks of all products of the generators.
+pub fn close_marks(generators: &[Op]) -> Marks
+    requires { HaveFrame generators.now }
+    ensures { IsKept generators.now (marked_below 128 result) result }
+{
+    let mut marks = Marks::none();
+    let mut found = Found::none();
+    add(Op::identity(), &mut marks, &mut found);
+    finish(generators, 0, &mut marks, &mut found);
+    marks
+}
+
+/// Appends the marked operations at some places, where those before are listed.
+fn list_places(
+    marks: &Marks,
+    from: usize,
+    to: usize,
+    elements: &mut Vec<Op>,
+) -> Result<(), AllocError>
+    requires within { to ≤ 128 }
+    requires order { from ≤ to }
+    requires before { elements.old.items ≡ marked_below from marks.now }
+    ensures { IfOk result (λ _. elements.new.items ≡ marked_below to marks.now) }
+{
+    for place in from..to {
+        let operation = Op::at_place(place);
+        if marks.has(&operation) {
+            elements.push(operation)?;
+        }
+    }
+    Ok(())
+}
+
+/// The marked operations, in their order.
+fn list_marked(alloc: Global, marks: &Marks) -> Result<Vec<Op>, AllocError>
     ensures { IfOk result (λ v. v.items ≡ marked_below 128 marks.now) }
 {
-    let mut elements = Vec::with_capacity(alloc, room)?;
-    for place in 0..128 {
-        if marks[place] {
-            elements.push(Op::at_place(place))?;
+    let mut elements = Vec::with_capacity(alloc, marks.count())?;
+    let matrices = marks.matrices();
+    for matrix in 0..64 {
+        if (matrices >> matrix) & 1 == 1 {
+            list_places(marks, 2 * matrix, 2 * matrix + 2, &mut elements)?;
         }
     }
     Ok(elements)
@@ -73,25 +106,8 @@ pub fn close(alloc: Global, generators: Vec<Op>) -> Result<Group, AllocError>
     requires { HaveFrame generators.items }
     ensures { IfOk result (λ g. IsListing comes_before (Spanned generators.items) g) }
 {
-    let mut marks = [false; 128];
-    let mut found = Found::none();
-    add(Op::identity(), &mut marks, &mut found);
-    finish(&generators, 0, &mut marks, &mut found);
-    let elements = list_marked(alloc, &marks, found.len())?;
-    Ok(Group {
-        elements,
-        marks,
-        generators,
-    })
-}
-
-/// The group of the operations at the marked places, with room for so many at first. All of its elements generate it.
-pub fn of_marks(alloc: Global, marks: [bool; 128], room: usize) -> Result<Group, AllocError>
-    requires { IsGroup (marked_below 128 marks) }
-    ensures { IfOk result (λ g. g ≡ marked_below 128 marks) }
-{
-    let elements = list_marked(alloc, &marks, room)?;
-    let generators = copied(alloc, &elements)?;
+    let marks = close_marks(&generators);
+    let elements = list_marked(alloc, &marks)?;
     Ok(Group {
         elements,
         marks,

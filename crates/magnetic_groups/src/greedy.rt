@@ -10,6 +10,7 @@ ghost use Rattle.tensor_defs.specs.Frames.{AllOf};
 use crate::Group;
 use crate::closing::{add, finish};
 use crate::found::Found;
+use crate::marks::Marks;
 use op_matrix::Op;
 use std::marker::Model;
 
@@ -84,7 +85,7 @@ impl Greedy {
 #[derive(Drop)]
 struct Span {
     taken: Greedy,
-    marks: [bool; 128],
+    marks: Marks,
     found: Found,
 }
 
@@ -94,7 +95,7 @@ impl Span {
         ensures none { result.taken ≡ [] }
         ensures span { IsSpan result.taken result.marks result.found }
     {
-        let mut marks = [false; 128];
+        let mut marks = Marks::none();
         let mut found = Found::none();
         add(Op::identity(), &mut marks, &mut found);
         Span {
@@ -108,7 +109,7 @@ impl Span {
     fn has(&self, operation: &Op) -> bool
         ensures { result ≡ mark_at self.now.marks (place operation.now) }
     {
-        self.marks[operation.place()]
+        self.marks.has(operation)
     }
 
     /// Adds the products of a new operation with the elements: as many again.

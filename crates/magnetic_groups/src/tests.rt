@@ -41,11 +41,15 @@ fn a_joined_group(rt: HostRuntime) -> Result<(), Fail> {
     assert_eq!(rt; one.len(), 1);
     let reversal = Op::reversal();
     assert!(rt; reversal.is_plain() && one.is_all_plain());
+    let kept = one.meet_conjugate(&reversal);
+    let marks = one.joined_marks(rt.alloc(), &reversal)?;
     let grey = one.joined(rt.alloc(), &reversal)?;
     assert_eq!(rt; grey.len(), 2);
     assert_eq!(rt; grey.place_of(&reversal), Some(1));
     assert_eq!(rt; grey.first_outside(&one), Some(1));
     assert!(rt; one.is_subset(&grey) && !grey.is_subset(&one) && one.place_of(&reversal).is_none());
+    assert!(rt; marks.len() == 2 && marks.has(&reversal) && marks.matrices() == 1);
+    assert!(rt; one.marks().is_subset(&marks) && !marks.is_subset(&kept));
     Ok(())
 }
 

@@ -7,7 +7,7 @@
 --   minus_faulty, minus_read, plus_read    with a - before the text, or without
 use Rattle.std.proofs.Common.{◌≡◌, ◌≢◌, ℕ, zero, suc, ◌+◌, ◌-◌, ◌<◌, ◌≤◌, ◌⊎◌, inl, inr, List, [], ◌∷◌, ◌++◌, length, get_or, take, drop, refl, sym, ap, subst, ◌∙◌, arith, length-drop}
 use Rattle.std.proofs.lemmas.Bool.{cases_lt}
-use Rattle.std.proofs.lemmas.List.{length-take, take-append-drop, drop_more}
+use Rattle.std.proofs.lemmas.List.{append-nil, length-take, take-append-drop, drop_more}
 use Rattle.std.specs.Char.{digit_value}
 use Rattle.std.specs.Prelude.{Result, Ok, Err}
 use Rattle.std.specs.Str.Parse.{digits_value}
@@ -25,10 +25,6 @@ use Rattle.number_words.proofs.Rests.{IsBehind, IsSplit, Whole, magnitude_ends, 
 
 none_more : (n : ℕ) → 0 + n ≡ n
 none_more n = omega arith
-
-append_none : (z : List ℕ) → z ++ [] ≡ z
-append_none [] = refl
-append_none (b ∷ z) = ap (λ t. b ∷ t) (append_none z)
 
 pub FactorRest : List ℕ → Type 0
 FactorRest z = z ≡ 42 ∷ root_word
@@ -54,7 +50,7 @@ sign_no_slash : (s : Sign) → 47 ≡ sign_byte s → ⊥
 sign_no_slash Plus e = omega arith
 sign_no_slash Minus e = omega arith
 
-sign_no_star : (s : Sign) → 42 ≡ sign_byte s → ⊥
+pub sign_no_star : (s : Sign) → 42 ≡ sign_byte s → ⊥
 sign_no_star Plus e = omega arith
 sign_no_star Minus e = omega arith
 
@@ -99,7 +95,7 @@ module _ (s : Sign) where
   pub signed_to : (z : List ℕ) → IsSignedText s z → RootOr SignedRest z
   unfolding SignedRest
   signed_to z (x, inl (n, d, m, e)) =
-      inr (subst (Whole SignedRest 0) (append_none z) (spelled_whole SignedRest behind_signed z [] n d m (inl refl)))
+      inr (subst (Whole SignedRest 0) (append-nil z) (spelled_whole SignedRest behind_signed z [] n d m (inl refl)))
   signed_to z (x, inr (inl (n, d, inl r, e))) = inl r.0
   signed_to z (x, inr (inl (n, d, inr (m, p, f), e))) =
       inr (subst (Whole SignedRest 0) (sym f) (spelled_whole SignedRest behind_signed m (42 ∷ root_word) n d p (inr (inl refl))))
@@ -116,7 +112,7 @@ module _ (s : Sign) where
       t.n,
       t.d,
       subst (λ u. SpellsMagnitude u t.n t.d)
-          (sym (t.text_is ∙ ap (λ u. t.magnitude ++ u) e ∙ append_none t.magnitude)) t.spelled,
+          (sym (t.text_is ∙ ap (λ u. t.magnitude ++ u) e ∙ append-nil t.magnitude)) t.spelled,
       refl,
     ),
   )

@@ -1,5 +1,6 @@
 -- No text stands for two numbers.
 use Rattle.std.proofs.Common.{◌≡◌, ℕ, ◌+◌, ◌<◌, ◌≤◌, inl, inr, List, [], ◌∷◌, ◌++◌, length, refl, sym, ap, subst, ◌∙◌, arith, append_assoc}
+use Rattle.std.proofs.lemmas.List.{append-nil}
 use Rattle.std.specs.Char.{digit_value}
 use Rattle.std.specs.Str.Parse.{AllDigits, digits_value}
 use Rattle.list_laws.proofs.Lists.{heads, tails, none_some}
@@ -8,7 +9,7 @@ use Rattle.tensor_defs.specs.declared.Sign.{Sign}
 use Rattle.tensor_defs.specs.declared.Sign.TheVariants.{Plus, Minus}
 use Rattle.number_words.specs.NumberWords.{SpellsFactor, SpellsMagnitude, SpellsSigned, root_word, sign_byte, size}
 use Rattle.number_words.specs.Laws.{OneNumber}
-use Rattle.number_words.proofs.Languages.{no_minus, signed_to}
+use Rattle.number_words.proofs.Languages.{no_minus, sign_no_star, signed_to}
 
 -- no digit and no / begins it
 record Stops (z : List ℕ) : Type 0 where
@@ -120,19 +121,15 @@ one_sign Minus Minus e = refl
 one_sign Plus Minus e = absurd (let h : ◌≡◌ {A = ℕ} 43 45 = e in omega (arith, h))
 one_sign Minus Plus e = absurd (let h : ◌≡◌ {A = ℕ} 45 43 = e in omega (arith, h))
 
-no_star_sign : (v : Sign) → 42 ≡ sign_byte v → ⊥
-no_star_sign Plus e = let h : ◌≡◌ {A = ℕ} 42 43 = e in omega (arith, h)
-no_star_sign Minus e = let h : ◌≡◌ {A = ℕ} 42 45 = e in omega (arith, h)
-
 one_tail : (s : Sign) (n d : ℕ) (rest : List ℕ) (x y : Number) → Tail s n d rest x → Tail s n d rest y → x ≡ y
 one_tail s n d rest x y (nothing e a) (nothing f b) = a ∙ sym b
 one_tail s n d rest x y (nothing e a) (star f b) = absurd (none_some (sym e ∙ f))
 one_tail s n d rest x y (nothing e a) (plus v g p q k f b) = absurd (none_some (sym e ∙ f))
 one_tail s n d rest x y (star e a) (nothing f b) = absurd (none_some (sym f ∙ e))
 one_tail s n d rest x y (star e a) (star f b) = a ∙ sym b
-one_tail s n d rest x y (star e a) (plus v g p q k f b) = absurd (no_star_sign v (heads (sym e ∙ f)))
+one_tail s n d rest x y (star e a) (plus v g p q k f b) = absurd (sign_no_star v (heads (sym e ∙ f)))
 one_tail s n d rest x y (plus v g p q k e a) (nothing f b) = absurd (none_some (sym f ∙ e))
-one_tail s n d rest x y (plus v g p q k e a) (star f b) = absurd (no_star_sign v (heads (sym f ∙ e)))
+one_tail s n d rest x y (plus v g p q k e a) (star f b) = absurd (sign_no_star v (heads (sym f ∙ e)))
 one_tail s n d rest x y (plus v g p q k e a) (plus v' g' p' q' k' f b) =
     let sign : v ≡ v' = one_sign v v' (heads (sym e ∙ f)) in
     let text : g ≡ g' = tails (sym e ∙ f) in
@@ -143,12 +140,8 @@ data Parts (s : Sign) (text : List ℕ) (x : Number) : Type 0 where
   root : text ≡ root_word → x ≡ mul (size s 1 1) root_3 → Parts s text x
   front : (m rest : List ℕ) (n d : ℕ) → SpellsMagnitude m n d → text ≡ m ++ rest → Tail s n d rest x → Parts s text x
 
-append_none : (z : List ℕ) → z ++ [] ≡ z
-append_none [] = refl
-append_none (b ∷ z) = ap (λ t. b ∷ t) (append_none z)
-
 parts_of : (s : Sign) (text : List ℕ) (x : Number) → SpellsSigned s text x → Parts s text x
-parts_of s text x (inl (n, d, m, e)) = front text [] n d m (sym (append_none text)) (nothing refl e)
+parts_of s text x (inl (n, d, m, e)) = front text [] n d m (sym (append-nil text)) (nothing refl e)
 parts_of s text x (inr (inl (n, d, inl (t, p, q), e))) = root t (e ∙ (λ i. mul (size s (p i) (q i)) root_3))
 parts_of s text x (inr (inl (n, d, inr (m, k, t), e))) = front m (42 ∷ root_word) n d k t (star refl e)
 parts_of s text x (inr (inr t)) =

@@ -166,7 +166,7 @@ fn ways_of_writers(rt: HostRuntime) -> Result<(), Fail> {
         (Way::Nothing, "", Outcome::WriteFault),
         (Way::Fault, "", Outcome::WriteFault),
         (Way::OneFault, "", Outcome::WriteFault),
-        (Way::Flush, SCALAR, Outcome::WriteFault),
+        (Way::Flush, ANSWERS, Outcome::WriteFault),
     ];
     for (way, want, end) in rows {
         expect(&rt, rt.alloc(), INPUT, After::End, way, want, end)?;

@@ -19,8 +19,7 @@ use Rattle.request_lines.specs.declared.keywords.Keyword.{Keyword}
 use Rattle.request_lines.specs.declared.keywords.Keyword.TheVariants.{Form, Group, Voigt, States, Pairs, Differ, Same}
 use Rattle.request_lines.specs.Keywords.{keyword_text, IsWorded}
 use Rattle.request_lines.specs.Parts.{IsCommented}
-use Rattle.request_lines.specs.Worded.{ReadsWorded}
-use Rattle.request_lines.specs.Readings.{ReadsRequest}
+use Rattle.request_lines.specs.Readings.{ReadsRequest, ReadsWorded}
 use Rattle.request_lines.proofs.Requests.{request_of, spells_some}
 
 keyword_first : (k : Keyword) (rest : List ℕ) → 36 ≤ get_or (keyword_text k ++ rest) 0 0

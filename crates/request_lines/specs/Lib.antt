@@ -2,4 +2,3 @@ pub mod Words
 pub mod Keywords
 pub mod Parts
 pub mod Readings
-pub mod Worded

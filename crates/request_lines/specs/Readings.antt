@@ -4,14 +4,17 @@
 --   IsNthWord       the word of a list with a number, counted from 1; none at 0 and past the last word
 --   Tells           a read request tells a request: the kind, the symbols with their columns, the weights
 --   ReadsRequest    the request of the format that the line spells, or else the place where the line goes wrong
+--   ReadsWorded     the same, but where the line goes wrong as a line with a keyword
 -- Source: this project's own, over the texts of requests.
 use Rattle.std.specs.Prelude.{◌≡◌, ◌⊎◌, ℕ, ◌+◌, ◌-◌, ◌<◌, ◌≤◌, List, ◌∷◌, drop, take, length, get_or, Option, Some, None}
 use Rattle.std.specs.Prelude.{Result, Ok, Err}
 use Rattle.text_defs.specs.JahnTexts.{SpellsJahn}
+use Rattle.text_defs.specs.Languages.{IsFaulty}
 use Rattle.text_defs.specs.declared.Format.{Format}
 use Rattle.text_defs.specs.Requests as defs
 use Rattle.text_defs.specs.Requests.{GroupAt, JahnAt, JahnWords, SpellsRequest, IsNoRequest}
 use Rattle.text_defs.specs.declared.Fault.{Fault}
+use Rattle.request_lines.specs.Keywords.{IsWorded}
 use Rattle.request_lines.specs.declared.Named.{Named}
 use Rattle.request_lines.specs.declared.Span.{Span}
 use Rattle.request_lines.specs.declared.Request.{Request}
@@ -61,3 +64,7 @@ Tells line r q = ⊥
 abbrev pub ReadsRequest : Format → List ℕ → Result Request Fault → Type 0
 ReadsRequest format line (Ok r) = (q : defs.Request) × SpellsRequest format line q × Tells line r q
 ReadsRequest format line (Err f) = IsNoRequest format line f.place
+
+abbrev pub ReadsWorded : Format → List ℕ → Result Request Fault → Type 0
+ReadsWorded format line (Ok r) = ReadsRequest format line (Ok r)
+ReadsWorded format line (Err f) = IsFaulty (IsWorded format) line f.place

@@ -5,8 +5,7 @@ ghost use Rattle.text_defs.specs.declared.Format.TheVariants.{Two};
 ghost use Rattle.text_defs.specs.Requests.{longest_line};
 ghost use Rattle.request_lines.specs.Parts.{ReadsGroupList, ReadsTwoGroups, ReadsTwoGroupsList, ReadsGroupJahnWeights};
 ghost use Rattle.request_lines.specs.Parts.{IsCommented};
-ghost use Rattle.request_lines.specs.Readings.{ReadsRequest};
-ghost use Rattle.request_lines.specs.Worded.{ReadsWorded};
+ghost use Rattle.request_lines.specs.Readings.{ReadsRequest, ReadsWorded};
 
 use crate::keywords::{Keyword, read_keyword};
 use crate::words::{group_then, jahn_then, last_group, last_list, last_weights};

@@ -86,8 +86,8 @@ impl Root3 {
     pub fn add(&self, other: &Root3) -> Result<Root3, TooLarge>
         ensures { IsExactSum (add (value_of_root self.now) (value_of_root other.now)) result }
     {
-        let a = self.a.add(&other.a)?;
-        let b = self.b.add(&other.b)?;
+        let a = sum_of(&self.a, &other.a)?;
+        let b = sum_of(&self.b, &other.b)?;
         Ok(Root3::of(a, b))
     }
 
@@ -103,12 +103,13 @@ impl Root3 {
     pub fn mul(&self, other: &Root3) -> Result<Root3, TooLarge>
         ensures { IsExactProduct (value_of_root self.now) (value_of_root other.now) result }
     {
-        let ac = self.a.mul(&other.a)?;
-        let bd = self.b.mul(&other.b)?;
-        let a = ac.add(&Frac::of_whole(3).mul(&bd)?)?;
-        let ad = self.a.mul(&other.b)?;
-        let bc = self.b.mul(&other.a)?;
-        let b = ad.add(&bc)?;
+        let ac = product_of(&self.a, &other.a)?;
+        let bd = product_of(&self.b, &other.b)?;
+        let triple = product_of(&Frac::of_whole(3), &bd)?;
+        let a = sum_of(&ac, &triple)?;
+        let ad = product_of(&self.a, &other.b)?;
+        let bc = product_of(&self.b, &other.a)?;
+        let b = sum_of(&ad, &bc)?;
         Ok(Root3::of(a, b))
     }
 
@@ -122,6 +123,33 @@ impl Root3 {
 }
 
 ghost use Rattle.std.specs.Prelude.{◌≡◌, ◌↔◌, IsTrue};
+ghost use Rattle.tensor_defs.specs.Number.{add, mul, value_of};
+ghost use Rattle.exact_frac.specs.Exact.{IsExact};
+
+/// The sum of two fractions, with no reckoning where one of them is 0.
+fn sum_of(a: &Frac, b: &Frac) -> Result<Frac, exact_frac::TooLarge>
+    ensures { IsExact (add (value_of a.now) (value_of b.now)) result }
+{
+    a.in_lowest_terms();
+    b.in_lowest_terms();
+    if a.is_zero() {
+        return Ok(*b);
+    }
+    if b.is_zero() {
+        return Ok(*a);
+    }
+    a.add(b)
+}
+
+/// The product of two fractions, likewise.
+fn product_of(a: &Frac, b: &Frac) -> Result<Frac, exact_frac::TooLarge>
+    ensures { IsExact (mul (value_of a.now) (value_of b.now)) result }
+{
+    if a.is_zero() || b.is_zero() {
+        return Ok(Frac::zero());
+    }
+    a.mul(b)
+}
 
 fn same_fraction(a: &Frac, b: &Frac) -> bool
     ensures { IsTrue result ↔ (a.now ≡ b.now) }

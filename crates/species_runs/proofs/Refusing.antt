@@ -1,15 +1,16 @@
 -- Words that have an answer are not refused.
 --   pair_refused    a refusal of two accepted symbols is one of the words
---   not_refused     where no refusal of the symbols applies, none of the words does
-use Rattle.std.proofs.Common.{◌≡◌, ℕ, ◌+◌, ◌≤◌, List, [], ◌∷◌, get_or, length, refl, subst, sym, arith, inl, inr}
+--   none_applies    where no refusal of the symbols applies, none of the words does
+use Rattle.std.proofs.Common.{◌≡◌, ℕ, [], get_or, refl, subst, sym, inl, inr}
 use Rattle.tensor_defs.specs.Group.{IsAccepted}
 use Rattle.tensor_defs.specs.Symbols.{GroupSymbol}
 use Rattle.text_laws.specs.Laws.{OneGroupSymbol}
-use Rattle.tool_runs.specs.Tools.{FirstLongFrom, NoneLong, Words}
+use Rattle.tool_runs.specs.Tools.{Words}
 use Rattle.tool_runs.specs.declared.refusals.RefusalName.{RefusalName}
 use Rattle.tool_runs.specs.declared.refusals.RefusalName.TheVariants as Name
-use Rattle.tool_runs.specs.declared.refusals.ToolRefusal.{ToolRefusal}
-use Rattle.species_runs.specs.SpeciesWords.{AreAsked, AreSpelled, Refuses, RefusesAs, RefusesPair}
+use Rattle.tool_runs.proofs.LongWords.{none_first}
+use Rattle.tool_runs.proofs.Refusing.{NoneApplies}
+use Rattle.species_runs.specs.SpeciesWords.{AreAsked, AreSpelled, RefusesAs, RefusesPair}
 
 pub pair_refused : (words : Words) (g f : GroupSymbol) → AreAsked words g f → (name : RefusalName) → RefusesPair g f name →
     RefusesAs name words 2 1
@@ -21,11 +22,6 @@ pair_refused words g f asked Name.Primes h = absurd h
 pair_refused words g f asked Name.Rank h = absurd h
 pair_refused words g f asked Name.Twice h = absurd h
 pair_refused words g f asked Name.NoName h = absurd h
-
-none_first : (ws : Words) (k n : ℕ) → NoneLong ws → FirstLongFrom k ws n → ⊥
-none_first [] k n none first = first
-none_first (w ∷ ws) k n none (inl x) = let a = none.0 in let b = x.0 in omega arith
-none_first (w ∷ ws) k n none (inr x) = none_first ws (k + 1) n none.1 x.1
 
 module _ (law : OneGroupSymbol) (words : Words) (g f : GroupSymbol) (asked : AreAsked words g f)
     (none : (name : RefusalName) → ¬ RefusesPair g f name) where
@@ -40,21 +36,18 @@ module _ (law : OneGroupSymbol) (words : Words) (g f : GroupSymbol) (asked : Are
       none name (subst (λ (x : GroupSymbol). RefusesPair x f name) (sym (group_same h k other.spelled))
       (subst (λ (x : GroupSymbol). RefusesPair h x name) (sym (subgroup_same h k other.spelled)) refuses))
 
-  not_refused_as : (name : RefusalName) (number column : ℕ) → RefusesAs name words number column → ⊥
-  not_refused_as Name.Long number column h = none_first words 1 number asked.spelled.short h.0
-  not_refused_as Name.Syntax number column (short, place, first, is) = elim first [
+  pub none_applies : NoneApplies RefusesAs words
+  none_applies Name.Long number column h = none_first words 1 number asked.spelled.short h.0
+  none_applies Name.Syntax number column (short, place, first, is) = elim first [
     | inl x ↦ x.0.none (g, asked.spelled.group_is)
     | inr x ↦ x.1.none (f, asked.spelled.subgroup_is)
   ]
-  not_refused_as Name.Primes number column (h, k, spelled, first, is) = elim first [
+  none_applies Name.Primes number column (h, k, spelled, first, is) = elim first [
     | inl x ↦ x.0 (subst IsAccepted (group_same h k spelled) asked.group_accepted)
     | inr x ↦ x.1 (subst IsAccepted (subgroup_same h k spelled) asked.subgroup_accepted)
   ]
-  not_refused_as Name.Rank number column (h, k, other, refuses, p, q) = no_pair Name.Rank h k other refuses
-  not_refused_as (Name.NotSub n) number column (h, k, other, refuses, p, q) = no_pair (Name.NotSub n) h k other refuses
-  not_refused_as Name.TooLarge number column (h, k, other, refuses, p, q) = no_pair Name.TooLarge h k other refuses
-  not_refused_as Name.Twice number column (h, k, other, refuses, p, q) = no_pair Name.Twice h k other refuses
-  not_refused_as Name.NoName number column (h, k, other, refuses, p, q) = no_pair Name.NoName h k other refuses
-
-  pub not_refused : (r : ToolRefusal) → Refuses words r → ⊥
-  not_refused r h = not_refused_as r.name r.word r.column h
+  none_applies Name.Rank number column (h, k, other, refuses, p, q) = no_pair Name.Rank h k other refuses
+  none_applies (Name.NotSub n) number column (h, k, other, refuses, p, q) = no_pair (Name.NotSub n) h k other refuses
+  none_applies Name.TooLarge number column (h, k, other, refuses, p, q) = no_pair Name.TooLarge h k other refuses
+  none_applies Name.Twice number column (h, k, other, refuses, p, q) = no_pair Name.Twice h k other refuses
+  none_applies Name.NoName number column (h, k, other, refuses, p, q) = no_pair Name.NoName h k other refuses

@@ -136,24 +136,10 @@ bounded-entry d c a b x h k s =
           ∙ same_numbers _ _ (record { same_p = refl; same_q = refl });
     }
 
-bounded-neg : (d b : ℕ) (x : Number) → IsBounded d b x → IsBounded d b (neg x)
+pub neg_triple : (p q : ℤ) (d : ℕ) (h : 0 < d) → neg (number_of (record { p = p; q = q; n = d; positive = h }))
+    ≡ number_of (record { p = negsuc 0 *ℤ p; q = negsuc 0 *ℤ q; n = d; positive = h })
 unfolding whole
-bounded-neg d b x s =
-    let size : (z : ℤ) → unsigned_abs (negsuc 0 *ℤ z) ≡ unsigned_abs z = λ z.
-    let e = unsigned_abs-mul (negsuc 0) z in omega (arith, e) in
-    let ep = size s.p in
-    let eq = size s.q in
-    let sp = s.small_p in
-    let sq = s.small_q in
-    record {
-      p = negsuc 0 *ℤ s.p;
-      q = negsuc 0 *ℤ s.q;
-      positive = s.positive;
-      small_p = omega (arith, ep, sp);
-      small_q = omega (arith, eq, sq);
-      same = ap (mul (number_of (record { p = negsuc 0; q = pos 0; n = 1; positive = lit< tt }))) s.same ∙ mul_at _ _
-          ∙ same_numbers _ _ (record { same_p = first s.p s.q d; same_q = second s.p s.q d });
-    }
+neg_triple p q d h = mul_at _ _ ∙ same_numbers _ _ (record { same_p = first p q d; same_q = second p q d })
   where
     nothing : (z : ℤ) → pos 0 *ℤ z ≡ pos 0
     nothing z = zero_times z
@@ -173,6 +159,23 @@ bounded-neg d b x s =
       where
         one : (d : ℕ) → d ≡ 1 * d
         one d = omega arith
+
+bounded-neg : (d b : ℕ) (x : Number) → IsBounded d b x → IsBounded d b (neg x)
+bounded-neg d b x s =
+    let size : (z : ℤ) → unsigned_abs (negsuc 0 *ℤ z) ≡ unsigned_abs z = λ z.
+    let e = unsigned_abs-mul (negsuc 0) z in omega (arith, e) in
+    let ep = size s.p in
+    let eq = size s.q in
+    let sp = s.small_p in
+    let sq = s.small_q in
+    record {
+      p = negsuc 0 *ℤ s.p;
+      q = negsuc 0 *ℤ s.q;
+      positive = s.positive;
+      small_p = omega (arith, ep, sp);
+      small_q = omega (arith, eq, sq);
+      same = ap neg s.same ∙ neg_triple s.p s.q d s.positive;
+    }
 
 -- ---- bounded numbers are far below the limit
 module _ (d b : ℕ) (low : d < limit) (small : b < limit) (x : Number) (h : IsBounded d b x) where

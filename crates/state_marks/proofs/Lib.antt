@@ -1,5 +1,4 @@
 pub mod Refusals
-pub mod Reach
 pub mod Factors
 pub mod Parts
 pub mod Skips
@@ -10,3 +9,4 @@ pub mod Bounds
 pub mod RowTells
 pub mod StateLaws
 pub mod MarkLaws
+pub mod AlikeLaws

@@ -3,7 +3,7 @@
 --   rows_calm       no row of a later state grows
 --   states_tell     where no row grows: the marks and the rows of each later state, and that no row grows
 --   a_row_grows     a row of a later state that grows
---   fault_told, some_state    the refusal of a table; there is a state
+--   grown_told, fault_told, some_state    refusals, of a row and of a table; there is a state
 --   form_has_units  each row of the form of a plain group is empty or one free component with the factor 1 or -1
 use Rattle.std.proofs.Common.{◌≡◌, ℕ, zero, suc, ◌+◌, ◌-◌, ◌<◌, ◌≤◌, ◌^◌, inl, inr, Bool, true, false, cond, List, [], ◌∷◌, length, map, drop, get_or, refl, ap, sym, ◌∙◌, subst, arith, Result, Ok, Err}
 use Rattle.std.specs.Result.{IfErr, IsErrAnd}
@@ -129,6 +129,10 @@ form_has_units r n f e units c l k =
 pub fault_back : (e : SolveFault) → fault_of e ≡ TooLarge → e ≡ solve.TooLarge
 fault_back solve.TooLarge is = refl
 fault_back solve.NoMemory is = cc
+
+pub grown_told : {X : Type 0} (r : Result X DifferFault) (P : Type 0) → P → IfErr r (λ f. f ≡ TooLarge → P)
+grown_told (Ok x) P p = tt
+grown_told (Err f) P p = λ _. p
 
 pub fault_told : {X : Type 0} (r : Result X DifferFault) (e : SolveFault) (P : Type 0) → IsErrAnd r (λ f. f ≡ fault_of e) →
     (e ≡ solve.TooLarge → P) → IfErr r (λ f. f ≡ TooLarge → P)

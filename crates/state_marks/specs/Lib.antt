@@ -1,4 +1,4 @@
-pub mod Reaching
 pub mod Sums
 pub mod Told
 pub mod Adding
+pub mod Alike

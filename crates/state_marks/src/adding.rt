@@ -1,5 +1,5 @@
 //! Sums of parts of a component in a state, one for each free component.
-ghost use Rattle.std.specs.Prelude.{◌≡◌, ◌<◌, OnErr, OnOk, IsTrue, length, map};
+ghost use Rattle.std.specs.Prelude.{◌≡◌, ◌<◌, IfErr, OnErr, OnOk, IsTrue, length, map};
 ghost use Rattle.tensor_defs.specs.Lists.{Each, IsRising};
 ghost use Rattle.tensor_defs.specs.Number.{neg, num_one, value_of};
 ghost use Rattle.tensor_defs.specs.Table.{places_rise};
@@ -10,17 +10,20 @@ ghost use Rattle.root3_num.specs.Answers.{IsExactProduct};
 ghost use Rattle.root3_num.specs.Roots.{value_of_root};
 ghost use Rattle.reduced_form.specs.Forms.{IsWellFormed, form_table, term_of};
 ghost use Rattle.tensor_rank.specs.Flags.{marks_of};
+ghost use Rattle.sign_moves.specs.Signs.{signed};
 ghost use Rattle.tensor_action.specs.Acting.{AddsPart};
+ghost use Rattle.tensor_action.specs.Factors.{product_number};
 ghost use Rattle.state_marks.specs.Adding.{AreSummed};
-ghost use Rattle.state_marks.specs.Reaching.{Reaches};
 ghost use Rattle.state_marks.specs.Sums.{AddsRow, AddsTerm, IsZeros, RowGrows, TermGrows};
 
+use crate::faults::DifferFault;
 use exact_frac::Frac;
 use op_matrix::Op;
 use reduced_form::{Form, Term};
 use root3_num::{Root3, TooLarge};
-use tensor_action::coefficient;
-use tensor_rank::{Comp, Flags, Rank};
+use std::alloc::Global;
+use tensor_action::{Part, parts_of, sign_of};
+use tensor_rank::{Comp, Flags, Rank, Sign};
 
 /// Whether a fraction is 1.
 fn is_one(number: &Frac) -> bool
@@ -86,26 +89,42 @@ fn add_terms(sums: &mut [Root3], factor: &Root3, terms: &[Term]) -> Result<(), T
     Ok(())
 }
 
+/// Adds the factor of a part times each term of its row to the sum of its free component.
+fn add_part(sums: &mut [Root3], part: &Part, sign: Sign, row: &[Term]) -> Result<(), TooLarge>
+    requires positive { 0 < part.now.product.below }
+    requires within { Each (λ t. t.free < length sums.old) row.now }
+    requires rising { IsRising places_rise (map term_of row.now) }
+    ensures ok { OnOk result (AddsRow sums.old (signed sign (product_number part.now.product)) row.now sums.new) }
+    ensures grows { OnErr result (RowGrows sums.old (signed sign (product_number part.now.product)) row.now) }
+{
+    if row.is_empty() {
+        return Ok(());
+    }
+    let factor = part.factor(sign);
+    add_terms(sums, &factor, row)
+}
+
 /// Adds the parts of a component in a state: for each component from which it takes the coefficient times its terms.
 pub fn add_parts<R: Rank>(
+    alloc: Global,
     op: &Op,
     flags: Flags,
     form: &Form<R>,
     to: Comp<R>,
-    numbers: &[u16],
     sums: &mut [Root3],
-) -> Result<(), TooLarge>
+) -> Result<(), DifferFault>
     requires formed { IsWellFormed R.R (form_table R.R form.now) }
     requires zeros { IsZeros (length form.now.free) sums.old }
-    requires reaches { Reaches op.now (index_of R.R to) numbers.now }
-    requires small { Each (λ n. n < R.LEN) numbers.now }
     ensures ok { OnOk result (AreSummed (marks_of flags) op.now R.R (form_table R.R form.now) (index_of R.R to) sums.new) }
-    ensures grows { OnErr result (StateRowGrows (marks_of flags) op.now (form_table R.R form.now) R.R (index_of R.R to)) }
+    ensures grows { IfErr result (λ e. e ≡ DifferFault.TooLarge → StateRowGrows (marks_of flags) op.now (form_table R.R form.now) R.R (index_of R.R to)) }
 {
-    for place in 0..numbers.len() {
-        let from = Comp::at(numbers[place] as usize);
-        let factor = coefficient(op, flags, to, from);
-        add_terms(sums, &factor, form.row(from))?;
+    let sign = sign_of(op, flags);
+    let parts = parts_of(alloc, op, to)?;
+    let parts = parts.as_slice();
+    for place in 0..parts.len() {
+        let part = parts[place];
+        let row = form.row(Comp::at(part.number as usize));
+        add_part(sums, &part, sign, row)?;
     }
     Ok(())
 }

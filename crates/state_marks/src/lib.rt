@@ -3,12 +3,13 @@
 #![tactic(auto)]
 
 mod adding;
+mod alike;
 mod faults;
 mod marks;
-mod reaching;
 mod rows;
 mod states;
 
+pub use alike::act_alike;
 pub use faults::DifferFault;
 pub use marks::{Marks, differ, first_form};
 pub use rows::RootTerm;

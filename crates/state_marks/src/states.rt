@@ -10,7 +10,6 @@ ghost use Rattle.state_marks.specs.Told.{AreStateRows, SomeRowGrows, mark_at, ro
 
 use crate::adding::add_parts;
 use crate::faults::DifferFault;
-use crate::reaching::reached;
 use crate::rows::{RootTerm, clear, differs, terms_of, zeros};
 use op_matrix::Op;
 use reduced_form::Form;
@@ -79,8 +78,7 @@ fn row_of<R: Rank>(
     ensures grows { IfErr result (λ e. e ≡ DifferFault.TooLarge → StateRowGrows (marks_of flags) op.now (form_table R.R form.now) R.R (index_of R.R number)) }
 {
     let to = Comp::at(number);
-    let numbers = reached(alloc, op, to)?;
-    add_parts(op, flags, form, to, numbers.as_slice(), sums)?;
+    add_parts(alloc, op, flags, form, to, sums)?;
     let terms = terms_of(alloc, sums)?;
     let marked = differs(sums, terms.as_slice(), form.row(to));
     clear(sums, terms.as_slice());

@@ -2,11 +2,11 @@
 --   IsCarrying    the components below a number
 --   carrying-grows    a component whose sum grows
 --   lists_in_turn    a product carries lists as its factors do in turn
---   carries-err, grows_always    refusals
+--   grows_always    refusals
 use Rattle.std.proofs.Common.{◌≡◌, ℕ, ◌+◌, ◌<◌, ◌^◌, inl, inr, List, [], ◌∷◌, ◌++◌, length, get_or, ap, sym, ◌∙◌, subst, arith, Result, Ok, Err}
 use Rattle.std.proofs.Math.ListN.{get_or-append}
-use Rattle.std.proofs.lemmas.Bool.{cases_lt, false≢true}
-use Rattle.std.specs.Result.{IfErr, IsErr}
+use Rattle.std.proofs.lemmas.Bool.{cases_lt}
+use Rattle.std.specs.Result.{IfErr}
 use Rattle.std.proofs.lemmas.List.{get_or_push, length_push}
 use Rattle.tensor_defs.specs.Number.{Root3, mul}
 use Rattle.tensor_defs.specs.Operation.{Operation, IsProduct}
@@ -18,7 +18,6 @@ use Rattle.tensor_laws.proofs.ActionLaws.{acts_in_turn}
 use Rattle.tensor_laws.proofs.Agreeing.{act-agree}
 use Rattle.tensor_laws.proofs.ComponentNumbers.{length-index_of}
 use Rattle.root3_num.specs.Roots.{value_of_root}
-use Rattle.root3_num.specs.declared.root.TooLarge.{TooLarge}
 use Rattle.tensor_rank.specs.IndexLaws.{component_below_at, index_number_at}
 use Rattle.tensor_action.specs.Acting.{ActGrows, CarriesTo, IsCarriedList, SumGrows, factor, tensor_of, zero_root}
 use Rattle.tensor_action.specs.declared.faults.ActFault.{ActFault}
@@ -110,11 +109,6 @@ lists_in_turn r n e m g h k p rs hs gs ks a b d c l =
     ∙ act-agree m g r (act m h (tensor_of rs)) (tensor_of hs) same (index_of r c) (length-index_of r c) ∙ sym (b.each c l)
 
 -- ---- refusals
-pub carries-err : (m : Marks) (g : Operation) (r : ℕ) (t : Tensor) (i : Index) (x : Result Root3 TooLarge) → IsErr x →
-    SumGrows r (factor m g i) t → CarriesTo m g r t i x
-carries-err m g r t i (Ok v) h p = absurd (false≢true h)
-carries-err m g r t i (Err e) h p = p
-
 pub grows_always : {T : Type 0} (x : Result T ActFault) (P : Type 0) → P → IfErr x (λ e. e ≡ fault.TooLarge → P)
 grows_always (Ok v) P p = tt
 grows_always (Err e) P p = λ _. p

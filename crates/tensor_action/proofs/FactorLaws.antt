@@ -1,16 +1,14 @@
 -- Products of entries as numbers.
---   halved_is, turned_is, one_is    one more entry
+--   halved_is, turned_is, nothing_is, one_is    one more entry
 --   one_number, zero_number, minus_one_number, minus_half_number, minus_root_number, with_minus
 --       the numbers of entries
---   new_is_ok, signed-root    fractions of small whole numbers
---   entry_is    entries at the indices of components
---   product-start, product-more, product-zero, product-end    the coefficient, one place after the other
---   within-weaker, within-place, within-more    bounds
+--   new_is_ok, signed-nothing, signed-root    fractions of small whole numbers
+--   entry_value, axis-digit    the number of an entry; an axis by its digit
+--   within-weaker    bounds
 --   signed_factor    the sign before a product
-use Rattle.std.proofs.Common.{◌≡◌, ℕ, suc, ◌+◌, ◌-◌, ◌*◌, ◌<◌, ◌≤◌, ◌^◌, inl, inr, length, drop, refl, ap, sym, ◌∙◌, subst, arith, lit<, Result, Ok, Err}
-use Rattle.std.proofs.Math.Nat.{dvd-mul_left, le_of_mul-le-mul_right, mul-le-mul_left, pow-le-pow_right, pow-suc}
+use Rattle.std.proofs.Common.{◌≡◌, ℕ, ◌+◌, ◌-◌, ◌*◌, ◌<◌, ◌≤◌, ◌^◌, inl, inr, refl, ap, sym, ◌∙◌, subst, arith, Result, Ok, Err}
+use Rattle.std.proofs.Math.Nat.{dvd-mul_left, le_of_mul-le-mul_right, mul-le-mul_left}
 use Rattle.std.proofs.lemmas.Int.{unsigned_abs-mul}
-use Rattle.std.proofs.lemmas.List.{drop_more, drop_all}
 use Rattle.std.proofs.lemmas.Nat.Gcd.{IsGcd-swap, le_of_dvd}
 use Rattle.std.specs.Prelude.{unsigned_abs}
 use Rattle.std.specs.Result.{IsOk}
@@ -18,21 +16,20 @@ use Prim.Native.Nat.{◌∣◌}
 use lib.IntN.{ℤ, pos, negsuc, ◌*ℤ◌}
 use Rattle.tensor_defs.specs.Number.{Number, Fraction, number_of, same_numbers, add, mul, mul_at, neg, whole, half_of, over, root_3, num_zero, num_one, limit, ReachesLimit}
 use Rattle.tensor_defs.specs.Operation.{Axis, x1, x2, x3, Operation, entry, value}
-use Rattle.tensor_defs.specs.Tensor.{Index, coefficient, digit}
+use Rattle.tensor_defs.specs.Tensor.{digit}
 use Rattle.tensor_defs.specs.declared.Sign.{Sign}
 use Rattle.tensor_defs.specs.declared.Sign.TheVariants.{Plus, Minus}
 use Rattle.number_laws.proofs.Gauss.{gauss}
-use Rattle.number_laws.proofs.NumberLaws.{num_mul_assoc, num_mul_left_comm, num_mul-one, num_one-mul, num_zero-mul, num_mul-zero}
+use Rattle.number_laws.proofs.NumberLaws.{num_mul_assoc, num_mul_left_comm, num_one-mul, num_mul-zero}
 use Rattle.exact_frac.specs.Exact.{IsNew}
 use Rattle.exact_frac.specs.declared.frac.FracFault.{FracFault}
 use Rattle.exact_frac.specs.declared.frac.FracFault.TheVariants as fault
-use Rattle.exact_frac.proofs.Overs.{same_over}
+use Rattle.exact_frac.proofs.Overs.{over-zero, same_over}
 use Rattle.root3_num.proofs.RootParts.{both-at, neg-parts}
 use Rattle.op_matrix.specs.View.{entry_of, axis}
 use Rattle.op_matrix.specs.declared.entry.Entry as code
 use Rattle.op_matrix.specs.declared.entry.Entry.TheVariants.{One, Zero, MinusHalf, MinusHalfRoot3, MinusOne}
 use Rattle.sign_moves.specs.Signs.{signed}
-use Rattle.tensor_rank.specs.IndexLaws.{nth}
 use Rattle.tensor_action.specs.declared.products.Product.{Product}
 use Rattle.tensor_action.specs.Factors.{IsWithin, entry_number, size_of}
 
@@ -68,6 +65,10 @@ pub turned_is : (s : Sign) (p q n : ℕ) → 0 < n →
 turned_is s p q n h =
     ap (signed s) (step p q n (3 * q) p (2 * n) 0 1 h (omega arith) (omega arith) (omega arith))
     ∙ signed-mul s (size_of p q n) (half_of (pos 0) (pos 1))
+
+pub nothing_is : size_of 0 0 1 ≡ num_zero
+unfolding whole
+nothing_is = as_triple 0 0 1 (omega arith) ∙ same_numbers _ _ (record { same_p = refl; same_q = refl })
 
 pub one_is : size_of 1 0 1 ≡ num_one
 unfolding whole
@@ -120,52 +121,24 @@ new_is_ok top below (Err fault.ZeroDenominator) h t b n = absurd (let z : below 
 new_is_ok top below (Err fault.TooLarge) h t b n =
     absurd (small-calm (pos top) below h (omega arith) (omega arith) n.1)
 
+pub signed-nothing : (s : Sign) (d : ℕ) → signed s (over (pos 0) d) ≡ num_zero
+signed-nothing Plus d = over-zero d
+signed-nothing Minus d = ap neg (over-zero d) ∙ num_mul-zero (whole (negsuc 0))
+
 -- a sign before both parts
 pub signed-root : (s : Sign) (x y : Number) → add (signed s x) (mul (signed s y) root_3) ≡ signed s (add x (mul y root_3))
 signed-root Plus x y = refl
 signed-root Minus x y = sym (neg-parts x y (whole (negsuc 0)) root_3)
 
--- ---- entries at the indices of components
+-- ---- entries, and digits of axes
+pub entry_value : (g : Operation) (e : code.Entry) (i j : Axis) → entry_of e ≡ entry g i j → entry_number e ≡ value g i j
+unfolding value
+entry_value g e i j at = λ n. half_of (at n).rational (at n).root
+
 pub axis-digit : (i : Axis) → axis (digit i - 1) ≡ i
 axis-digit x1 = refl
 axis-digit x2 = refl
 axis-digit x3 = refl
-
-pub entry_is : (g : Operation) (e : code.Entry) (a b : ℕ) (i j : Axis) → entry_of e ≡ entry g (axis (a - 1)) (axis (b - 1)) →
-    a ≡ digit i → b ≡ digit j → entry_number e ≡ value g i j
-unfolding value
-entry_is g e a b i j p u v =
-    let at : entry_of e ≡ entry g i j = p ∙ (λ n. entry g ((ap (λ d. axis (d - 1)) u ∙ axis-digit i) n) ((ap (λ d. axis (d - 1)) v ∙ axis-digit j) n)) in
-    λ n. half_of (at n).rational (at n).root
-
--- ---- the coefficient, one place after the other
-coefficient-more : (g : Operation) (is js : Index) (k : ℕ) → k < length is → k < length js →
-    coefficient g (drop k is) (drop k js)
-    ≡ mul (value g (nth is k) (nth js k)) (coefficient g (drop (k + 1) is) (drop (k + 1) js))
-coefficient-more g is js k h l = λ n. coefficient g (drop_more is k x1 h n) (drop_more js k x1 l n)
-
-module _ (g : Operation) (is js : Index) (z : Number) where
-  pub product-start : (x : Number) → x ≡ num_one → coefficient g is js ≡ z → mul x (coefficient g (drop 0 is) (drop 0 js)) ≡ z
-  product-start x e f = ap (λ y. mul y (coefficient g is js)) e ∙ num_one-mul (coefficient g is js) ∙ f
-
-  pub product-more : (k : ℕ) (x y v : Number) → k < length is → k < length js →
-      mul x (coefficient g (drop k is) (drop k js)) ≡ z → v ≡ value g (nth is k) (nth js k) → y ≡ mul x v →
-      mul y (coefficient g (drop (k + 1) is) (drop (k + 1) js)) ≡ z
-  product-more k x y v h l e f p =
-      let rest = coefficient g (drop (k + 1) is) (drop (k + 1) js) in
-      ap (λ w. mul w rest) (p ∙ ap (mul x) f) ∙ num_mul_assoc x (value g (nth is k) (nth js k)) rest
-      ∙ ap (mul x) (sym (coefficient-more g is js k h l)) ∙ e
-
-  pub product-zero : (k : ℕ) (x v : Number) → k < length is → k < length js →
-      mul x (coefficient g (drop k is) (drop k js)) ≡ z → v ≡ value g (nth is k) (nth js k) → v ≡ num_zero → z ≡ num_zero
-  product-zero k x v h l e f p =
-      let rest = coefficient g (drop (k + 1) is) (drop (k + 1) js) in
-      sym e ∙ ap (mul x) (coefficient-more g is js k h l ∙ ap (λ w. mul w rest) (sym f ∙ p) ∙ num_zero-mul rest) ∙ num_mul-zero x
-
-  pub product-end : (k : ℕ) (x : Number) → length is ≤ k → length js ≤ k →
-      mul x (coefficient g (drop k is) (drop k js)) ≡ z → x ≡ z
-  product-end k x h l e =
-      sym (num_mul-one x) ∙ ap (mul x) (sym (λ n. coefficient g (drop_all k is h n) (drop_all k js l n))) ∙ e
 
 -- ---- bounds
 pub within-weaker : (a b : ℕ) (p : Product) → a ≤ b → IsWithin a p → IsWithin b p
@@ -174,17 +147,6 @@ within-weaker a b p h w =
     let q = w.root in
     let n = w.below in
     record { rational = omega (arith, r); root = omega (arith, q); below = omega (arith, n); positive = w.positive }
-
-pub within-place : (k r : ℕ) (p : Product) → k < r → r ≤ 6 → IsWithin (3 ^ k) p → IsWithin 243 p
-within-place k r p h s w =
-    let small : 3 ^ k ≤ 3 ^ 5 = pow-le-pow_right {n = 3} (lit< tt) {i = k} {j = 5} (omega arith) in
-    within-weaker (3 ^ k) 243 p small w
-
-pub within-more : (k : ℕ) (p : Product) → IsWithin (3 * 3 ^ k) p → IsWithin (3 ^ (k + 1)) p
-within-more k p w =
-    let one : k + 1 ≡ suc k = omega arith in
-    let e : 3 ^ suc k ≡ 3 ^ k * 3 = pow-suc 3 k in
-    subst (λ b. IsWithin b p) (omega (arith, e, ap (λ j. 3 ^ j) one)) w
 
 -- ---- the sign before a product
 pub signed_factor : (s : Sign) (x y w : Number) → w ≡ signed s num_one → y ≡ x → signed s y ≡ mul w x

@@ -1,11 +1,10 @@
 -- Sums of products, one product after the other, and where they grow.
 --   root-value, held_calm    0 and numbers that are held
---   adds-zero, adds-err, adds-sum    a sum with one more product
+--   adds-sum        a sum with one more product
 --   IsSummed, summed-start, summed-more, summed-grows, summed-end, summed-calm    the sum of the first n products
 use Rattle.std.proofs.Common.{◌≡◌, ℕ, ◌+◌, ◌<◌, ◌≤◌, ◌^◌, ◌⊎◌, inl, inr, take, ap, sym, ◌∙◌, subst, arith, lit<, Result, Ok, Err}
-use Rattle.std.proofs.lemmas.Bool.{false≢true, cases_lt}
+use Rattle.std.proofs.lemmas.Bool.{cases_lt}
 use Rattle.std.proofs.lemmas.List.{take_all}
-use Rattle.std.specs.Result.{IsErr}
 use lib.IntN.{pos}
 use Rattle.tensor_defs.specs.Number.{Number, Root3, add, mul, whole, num_zero, root_3, HasParts, ReachesLimit, PartReaches, ProductReaches}
 use Rattle.tensor_defs.specs.StateRows.{sum_of}
@@ -83,16 +82,6 @@ zero_product_calm x y z p =
     ]
 
 -- ---- a sum with one more product
-pub adds-zero : (s x y : Number) (v : Root3) → x ≡ num_zero → IsHeldRoot s v → AddsPart s x y (Ok v)
-adds-zero s x y v z h =
-    let same : s ≡ add s (mul x y) = sym (ap (add s) (ap (λ u. mul u y) z ∙ num_zero-mul y) ∙ num_add-zero s) in
-    (root-value s v h ∙ same, zero_product_calm x y z, λ p. held_calm s v h (subst PartReaches (sym same) p))
-
-pub adds-err : (s x y : Number) (r : Result Root3 TooLarge) → IsErr r → ProductReaches x y ⊎ PartReaches (add s (mul x y)) →
-    AddsPart s x y r
-adds-err s x y (Ok v) h p = absurd (false≢true h)
-adds-err s x y (Err e) h p = p
-
 pub adds-sum : (s x y : Number) (part : Root3) (r : Result Root3 TooLarge) → IsHeldRoot (mul x y) part →
     (ProductReaches x y → ⊥) → IsExactSum (add s (value_of_root part)) r → AddsPart s x y r
 adds-sum s x y part r h calm e =

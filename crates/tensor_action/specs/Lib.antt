@@ -1,3 +1,4 @@
 pub mod Factors
+pub mod Reaching
 pub mod Acting
 pub mod Turns

@@ -1,6 +1,6 @@
 //! The factor of a component in a component of the carried tensor.
-ghost use Rattle.std.specs.Prelude.{◌≡◌, ◌<◌, MatchOption};
-ghost use Rattle.tensor_defs.specs.Number.{mul, num_zero};
+ghost use Rattle.std.specs.Prelude.{◌≡◌, ◌<◌};
+ghost use Rattle.tensor_defs.specs.Number.{mul};
 ghost use Rattle.tensor_defs.specs.Operation.{value};
 ghost use Rattle.tensor_defs.specs.Tensor.{coefficient, index_of, sign};
 ghost use Rattle.root3_num.specs.Roots.{value_of_root};
@@ -8,7 +8,7 @@ ghost use Rattle.tensor_rank.specs.Flags.{marks_of};
 ghost use Rattle.tensor_rank.specs.IndexLaws.{nth};
 ghost use Rattle.tensor_action.specs.Factors.{entry_number, product_number};
 
-use crate::products::{Product, number_of, one, with_entry, zero};
+use crate::products::{Product, number_of, one, with_entry};
 use crate::signs::sign_of;
 use op_matrix::{Entry, Op};
 use root3_num::Root3;
@@ -24,24 +24,21 @@ fn entry_between<R: Rank>(op: &Op, to: Comp<R>, from: Comp<R>, place: usize) -> 
     op.entry(row, col)
 }
 
-/// The product of the entries at the indices of two components; none where one of them is 0.
-fn product_between<R: Rank>(op: &Op, to: Comp<R>, from: Comp<R>) -> Option<Product>
-    ensures value { MatchOption result (coefficient op.now (index_of R.R to) (index_of R.R from) ≡ num_zero) (λ p. product_number p ≡ coefficient op.now (index_of R.R to) (index_of R.R from)) }
-    ensures positive { MatchOption result (0 < 1) (λ p. 0 < p.below) }
+/// The product of the entries at the indices of two components.
+fn product_between<R: Rank>(op: &Op, to: Comp<R>, from: Comp<R>) -> Product
+    ensures value { product_number result ≡ coefficient op.now (index_of R.R to) (index_of R.R from) }
+    ensures positive { 0 < result.below }
 {
     let mut product = one();
     for place in 0..R::R {
-        product = with_entry(product, entry_between(op, to, from, place))?;
+        product = with_entry(product, entry_between(op, to, from, place));
     }
-    Some(product)
+    product
 }
 
 /// The factor of the component `from` in the component `to` of the carried tensor, with the sign.
 pub fn coefficient<R: Rank>(op: &Op, flags: Flags, to: Comp<R>, from: Comp<R>) -> Root3
     ensures { value_of_root result ≡ mul (sign (marks_of flags) op.now) (coefficient op.now (index_of R.R to) (index_of R.R from)) }
 {
-    match product_between(op, to, from) {
-        Some(product) => number_of(product, sign_of(op, flags)),
-        None => zero(),
-    }
+    number_of(product_between(op, to, from), sign_of(op, flags))
 }

@@ -5,6 +5,7 @@
 mod action;
 mod coefficients;
 mod faults;
+mod parts;
 mod products;
 mod signs;
 #[cfg(test)]
@@ -14,5 +15,6 @@ mod turns;
 pub use action::act;
 pub use coefficients::coefficient;
 pub use faults::ActFault;
+pub use parts::{Part, parts_of};
 pub use signs::sign_of;
 pub use turns::products_act_in_turn;

@@ -1,5 +1,5 @@
 //! Products of entries of operations, in whole numbers.
-ghost use Rattle.std.specs.Prelude.{◌≡◌, ℕ, ◌*◌, ◌<◌, pos, MatchOption, IfSome};
+ghost use Rattle.std.specs.Prelude.{◌≡◌, ℕ, ◌*◌, ◌<◌, pos};
 ghost use Rattle.tensor_defs.specs.Number.{half_of, mul, neg, num_one, num_zero, over};
 ghost use Rattle.exact_frac.specs.Held.{IsHeldAs};
 ghost use Rattle.root3_num.specs.Roots.{value_of_root};
@@ -75,20 +75,33 @@ fn turned(product: Product) -> Product
     }
 }
 
-/// The product with one more entry; none where the entry is 0.
-pub fn with_entry(product: Product, entry: Entry) -> Option<Product>
+/// The product with an entry 0.
+fn nothing() -> Product
+    ensures value { product_number result ≡ num_zero }
+    ensures within { (b : ℕ) → 0 < b → IsWithin b result }
+{
+    Product {
+        sign: Sign::Plus,
+        rational: 0,
+        root: 0,
+        below: 1,
+    }
+}
+
+/// The product with one more entry.
+pub fn with_entry(product: Product, entry: Entry) -> Product
     requires { IsWithin 243 product }
-    ensures value { MatchOption result (entry_number entry ≡ num_zero) (λ p. product_number p ≡ mul (product_number product) (entry_number entry)) }
-    ensures within { (b : ℕ) → IsWithin b product → IfSome result (IsWithin (3 * b)) }
+    ensures value { product_number result ≡ mul (product_number product) (entry_number entry) }
+    ensures within { (b : ℕ) → IsWithin b product → IsWithin (3 * b) result }
 {
     match entry {
-        Entry::One => Some(product),
-        Entry::HalfRoot3 => Some(turned(product)),
-        Entry::Half => Some(halved(product)),
-        Entry::Zero => None,
-        Entry::MinusHalf => Some(negated(halved(product))),
-        Entry::MinusHalfRoot3 => Some(negated(turned(product))),
-        Entry::MinusOne => Some(negated(product)),
+        Entry::One => product,
+        Entry::HalfRoot3 => turned(product),
+        Entry::Half => halved(product),
+        Entry::Zero => nothing(),
+        Entry::MinusHalf => negated(halved(product)),
+        Entry::MinusHalfRoot3 => negated(turned(product)),
+        Entry::MinusOne => negated(product),
     }
 }
 
@@ -97,6 +110,9 @@ fn signed_fraction(sign: Sign, top: u32, below: u32) -> Frac
     requires { 0 < below }
     ensures { IsHeldAs (signed sign (over (pos top) below)) result }
 {
+    if top == 0 {
+        return Frac::zero();
+    }
     let size = Frac::new(i64::from(top), i64::from(below)).unwrap();
     match sign {
         Sign::Plus => size,

@@ -14,8 +14,8 @@ use Rattle.text_defs.specs.Requests.{Request, SpellsRequest, longest_line}
 use Rattle.text_laws.proofs.RequestUnique.{one_request_spelled}
 use Rattle.worked_rows.proofs.FirstRowProof.{first_row, below_first}
 use Rattle.worked_rows.proofs.RowProofs.{false_true}
-use Rattle.worked_rows.proofs.VectorRow.{two_only, two_y_in}
-use Rattle.worked_rows.specs.Rows.{two_alone, two_y, first_line, first_request, FirstLineAnswered, FirstLineNotRefused}
+use Rattle.worked_rows.proofs.VectorRow.{two_only, two_y, two_y_in}
+use Rattle.worked_rows.specs.Rows.{two_alone, first_line, first_request, FirstLineAnswered, FirstLineNotRefused}
 
 -- the members of the group of 2
 pub two_members : (k : Operation) → InGroup two_alone k ↔ ((k ≡ identity) ⊎ (k ≡ two_y))

@@ -11,7 +11,7 @@
 --   HeadedLines     the line format 2 and a comment: nothing is answered
 --   GroupRow        the line group 2' spells a request, and its answer has these bytes
 --   FaultOfOneText  where a word goes wrong in the language of one text
-use Rattle.std.specs.Prelude.{◌≡◌, ◌≢◌, ℕ, true, false, List, [], ◌∷◌, ◌⊎◌, ◌↔◌}
+use Rattle.std.specs.Prelude.{◌≡◌, ◌≢◌, ℕ, true, false, List, [], ◌∷◌, ◌⊎◌, ◌↔◌, codes}
 use Rattle.tensor_defs.specs.Group.{InGroup, IsProductOf}
 use Rattle.tensor_defs.specs.Jahn.{JahnSymbol, V}
 use Rattle.tensor_defs.specs.Operation.{Operation, identity, matrix, one, nought, minus_one, x2}
@@ -27,7 +27,6 @@ use Rattle.text_defs.specs.Answers.{AnswersRequest, IsAnswer}
 use Rattle.text_defs.specs.Refusals.{IsRefused}
 use Rattle.text_defs.specs.Requests.{Request, SpellsRequest, IsNoRequest}
 use Rattle.tensor_defs.specs.declared.Setting.TheVariants.{Default}
-use Rattle.std.specs.Prelude.{codes}
 use Rattle.text_defs.specs.Requests.Request.{Form, Group}
 use Rattle.text_defs.specs.Languages.{IsFaulty}
 use Rattle.text_defs.specs.Lines.{AreAnswersOf}
@@ -51,9 +50,6 @@ pub record GroupOfTwoPrime : Type 0 where
 -- the table of `form 2 V`: the component y is free, and x and z vanish
 abbrev pub two_alone : GroupSymbol
 two_alone = record { parent = 3; primes = 0; grey = false; setting = Default }
-
-abbrev pub two_y : Operation
-two_y = matrix minus_one nought nought nought one nought nought nought minus_one false
 
 abbrev pub vector_symbol : JahnSymbol
 vector_symbol =

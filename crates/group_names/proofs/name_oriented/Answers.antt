@@ -1,4 +1,4 @@
-use Rattle.std.proofs.Common.{◌≡◌, Bool, ℕ, true, sym, subst}
+use Rattle.std.proofs.Common.{◌≡◌, Bool, ℕ, true, arith, sym, subst}
 use Rattle.tensor_defs.specs.declared.Setting.{Setting}
 use Rattle.tensor_defs.specs.Symbols.{takes_setting}
 use Rattle.magnetic_groups.specs.Sets.{In}
@@ -9,7 +9,7 @@ use Rattle.group_names.proofs.name_oriented.Goals as goal
 
 pub returns-then-matrices_at-matrices : goal.returns-then-matrices_at-matrices
 returns-then-matrices_at-matrices c =
-    other_row c.args.group.now c.args.place c.args.matrices c.matrices_at.result c.requires.listed c.requires.counted c.matrices_at.ensures c.if-matrices_at-matrices.true
+    other_row c.args.group.now c.args.place c.args.matrices c.matrices_at.result c.requires.listed (omega arith) c.requires.counted c.matrices_at.ensures c.if-matrices_at-matrices.true
 
 pub name_with-requires-clause-takes : goal.name_with-requires-clause-takes
 name_with-requires-clause-takes c =

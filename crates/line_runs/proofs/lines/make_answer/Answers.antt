@@ -1,4 +1,4 @@
-use Rattle.std.proofs.Common.{◌≡◌, ◌↔◌, ◌++◌, IsTrue, true, false, sym, ◌∙◌, ap, subst, arith, rules, List, ℕ}
+use Rattle.std.proofs.Common.{◌≡◌, ◌↔◌, IsTrue, true, false, sym, rules, subst, List, ℕ}
 use Rattle.text_defs.specs.Answers.{IsAnswer}
 use Rattle.text_defs.specs.Refusals.{IsRefused}
 use Rattle.line_runs.specs.declared.lines.LineEnd.TheVariants.{Refused}
@@ -6,10 +6,9 @@ use Rattle.line_runs.proofs.LongLines.{held_slow, on_err, refused_long, stands_f
 use Rattle.line_runs.proofs.lines.make_answer.Goals as goal
 
 pub returns-then-is_too_long-clause-answer : goal.returns-then-is_too_long-clause-answer
-returns-then-is_too_long-clause-answer g c = λ whole stands.
+returns-then-is_too_long-clause-answer g c =
     let made = c.in_ok-refuse_long.ensures.ok in
-    let bytes = made.1 ∙ ap (λ (l : List ℕ). l ++ made.0) c.clear.ensures.items in
-    subst (λ (l : List ℕ). IsAnswer c.args.format c.args.number whole l) (sym bytes) (made.2 whole (c.if-is_too_long.ensures whole stands))
+    record { answer = made.0; grown = made.1; is_answer = λ whole stands. made.2 whole (c.if-is_too_long.ensures whole stands) }
 
 pub returns-then-is_too_long-clause-refused : goal.returns-then-is_too_long-clause-refused
 returns-then-is_too_long-clause-refused g c = λ whole stands.
@@ -20,17 +19,20 @@ returns-in_err-end-clause-memory g c =
     on_err c.from_residual-in_err-end.result (λ whole stands.
     held_slow c.args.format c.args.number c.args.is_long c.args.line.now c.if-is_too_long.ensures.0
     (λ quick.
-    let bad : false ≡ true = c.in_err-end.ensures.room (omega (arith, c.clear.ensures.len, c.clear.ensures.capacity, c.requires.room)) quick in
+    let bad : false ≡ true = c.in_err-end.ensures.room c.requires.room quick in
     cc)
     whole stands)
 
 pub returns-clause-answer : goal.returns-clause-answer
-returns-clause-answer g c = λ whole stands.
+returns-clause-answer g c =
     let end = c.in_ok-end.ensures.ok in
-    let same = stands_false c.args.is_long c.args.line.now whole c.if-is_too_long.ensures.0 stands in
-    let bytes = end.grown ∙ ap (λ (l : List ℕ). l ++ end.answer) c.clear.ensures.items in
-    subst (λ (w : List ℕ). IsAnswer c.args.format c.args.number w c.answer.new.out.items) (sym same)
-    (subst (λ (l : List ℕ). IsAnswer c.args.format c.args.number c.args.line.now l) (sym bytes) end.is_answer)
+    record {
+      answer = end.answer;
+      grown = end.grown;
+      is_answer = λ whole stands.
+          subst (λ (w : List ℕ). IsAnswer c.args.format c.args.number w end.answer)
+          (sym (stands_false c.args.is_long c.args.line.now whole c.if-is_too_long.ensures.0 stands)) end.is_answer;
+    }
 
 pub returns-clause-refused : goal.returns-clause-refused
 returns-clause-refused g c = λ whole stands.

@@ -1,18 +1,23 @@
-use Rattle.std.proofs.Common.{◌++◌, [], ◌∷◌, sym, ◌∙◌, ap}
+use Rattle.std.proofs.Common.{◌≡◌, ◌*◌, ◌+◌, sym, ◌∙◌, ap, arith}
+use Rattle.std.proofs.lemmas.Nat.Bits.{shr_and_one}
 use Rattle.magnetic_groups.specs.Marks.{marked_below}
-use Rattle.magnetic_groups.proofs.Marked.{marked_next, marked_past}
+use Rattle.magnetic_groups.proofs.Marked.{marked_past_both}
 use Rattle.magnetic_groups.proofs.closing.list_marked.Goals as goal
-use Rattle.magnetic_groups.proofs.closing.list_marked.Goals.{then-marks-place+in_ok-push, else-marks-place}
+use Rattle.magnetic_groups.proofs.closing.list_marked.Goals.{then-matrices-matrix-eq1+in_ok-list_places, else-matrices-matrix-eq1}
 
-pub loop-place-init : goal.loop-place-init
+pub loop-matrix-init : goal.loop-matrix-init
 unfolding marked_below
-loop-place-init c = c.in_ok-elements.ensures.items
+loop-matrix-init c = c.in_ok-elements.ensures.items
 
-pub loop-place-preserved : goal.loop-place-preserved
-loop-place-preserved c = elim c.if-marks-place.branch [
-  | then-marks-place+in_ok-push w ↦ ap (λ v. v.items) w.elements-is ∙ w.in_ok-push.ensures.items ∙
-      (λ i. c.loop-place.invariant i ++ w.at_place.ensures i ∷ []) ∙
-      sym (marked_next c.loop-place.place c.args.marks.now w.if-marks-place.true)
-  | else-marks-place w ↦ ap (λ v. v.items) w.elements-is ∙ c.loop-place.invariant ∙
-      sym (marked_past c.loop-place.place c.args.marks.now w.if-marks-place.false)
-]
+pub loop-matrix-preserved : goal.loop-matrix-preserved
+loop-matrix-preserved c =
+    let n = c.loop-matrix.matrix in
+    let e : 2 * n + 2 ≡ 2 * (n + 1) = omega arith in
+    elim c.if-matrices-matrix-eq1.branch [
+      | then-matrices-matrix-eq1+in_ok-list_places w ↦
+          ap (λ v. v.items) w.elements-is ∙ w.in_ok-list_places.ensures ∙ ap (λ k. marked_below k c.args.marks.now) e
+      | else-matrices-matrix-eq1 w ↦
+          ap (λ v. v.items) w.elements-is ∙ c.loop-matrix.invariant
+          ∙ sym (marked_past_both n c.args.marks.now
+          (λ h. w.if-matrices-matrix-eq1.false (shr_and_one c.matrices-matrices.result n ∙ (c.matrices-matrices.ensures n c.loop-matrix-test.true).1 h)))
+    ]

@@ -1,9 +1,10 @@
 use Rattle.std.proofs.Common.{[], ◌∷◌, ◌∙◌, Err, ap, inl, inr, refl, subst, sym}
 use Rattle.tool_runs.specs.Tools.{Words}
+use Rattle.tool_runs.proofs.Refusing.{none_refuses}
 use Rattle.magnetic_groups.specs.declared.build.GroupFault.{GroupFault}
-use Rattle.species_runs.specs.SpeciesWords.{AreAsked}
+use Rattle.species_runs.specs.SpeciesWords.{AreAsked, RefusesAs}
 use Rattle.species_runs.specs.Stops.{IsStop}
-use Rattle.species_runs.proofs.Refusing.{not_refused}
+use Rattle.species_runs.proofs.Refusing.{none_applies}
 use Rattle.species_runs.proofs.runs.answer_symbols.Goals as goal
 
 pub returns-in-Err-Primes-clause-stop : goal.returns-in-Err-Primes-clause-stop
@@ -28,6 +29,7 @@ returns-in-Ok-answer_groups-clause-text c =
       group_accepted = c.in-Ok.ensures.accepted;
       subgroup_accepted = c.in-Ok-build_group.ensures.accepted;
     } in (
-      not_refused c.one_group_symbol.ensures words c.args.g.now c.args.f.now asked c.in-Ok-answer_groups.ensures.text.0,
+      none_refuses RefusesAs words
+          (none_applies c.one_group_symbol.ensures words c.args.g.now c.args.f.now asked c.in-Ok-answer_groups.ensures.text.0),
       (c.args.g.now, c.args.f.now, asked, c.in-Ok-answer_groups.ensures.text.1),
     )

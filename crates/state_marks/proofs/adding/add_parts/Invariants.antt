@@ -7,5 +7,5 @@ use Rattle.state_marks.proofs.adding.add_parts.Given as goal
 
 abbrev pub invariant-loop-place : goal.invariant-loop-place
 invariant-loop-place g l =
-    IsAddingParts (marks_of l.flags) l.op g.R.Rank.R (form_table g.R.Rank.R l.form) (index_of g.R.Rank.R l.to)
-    (drop l.place l.numbers) l.sums
+    IsAddingParts (marks_of l.fn.flags) l.op g.R.Rank.R (form_table g.R.Rank.R l.form) (index_of g.R.Rank.R l.fn.to)
+    (drop l.place l.parts) l.sums

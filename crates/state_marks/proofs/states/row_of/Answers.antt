@@ -1,6 +1,8 @@
 use Rattle.std.proofs.Common.{◌≡◌, ◌<◌, ◌^◌, ◌∙◌, length, List, map, subst, sym, arith}
 use Rattle.tensor_defs.specs.Lists.{Each, IsRising}
+use Rattle.tensor_defs.specs.StateRows.{StateRowGrows}
 use Rattle.tensor_defs.specs.Table.{places_rise}
+use Rattle.reduced_form.proofs.ToldLaws.{err_same}
 use Rattle.tensor_defs.specs.Tensor.{index_of}
 use Rattle.reduced_form.specs.declared.forms.Term.{Term}
 use Rattle.reduced_form.specs.Forms.{form_table, row_at, term_of}
@@ -48,3 +50,10 @@ returns-clause-ok g c =
     subst (λ k. IsRow m c.args.op.now r (form_table r f) (index_of r k) row c.differs-marked.result) c.at-to.ensures
     (row_is m c.args.op.now r f n below sums row c.in_ok-add_parts.ensures.ok c.in_ok-terms.ensures c.differs-marked.result
     (subst (λ (ts : List Term). TellsBoth sums ts c.differs-marked.result) c.row.ensures c.differs-marked.ensures))
+
+pub returns-in_err-add_parts-clause-grows : goal.returns-in_err-add_parts-clause-grows
+returns-in_err-add_parts-clause-grows g c =
+    let r = g.R.Rank.R in
+    err_same c.from_residual.result c.in_err-add_parts.field-0.0 _ c.from_residual.ensures.1
+    (λ p. subst (λ k. StateRowGrows (marks_of c.args.flags) c.args.op.now (form_table r c.args.form.now) r (index_of r k)) c.at-to.ensures
+    (c.in_err-add_parts.ensures.grows p))

@@ -1,8 +1,13 @@
-use Rattle.std.proofs.Common.{◌≡◌, subst, arith, Ok, Err}
+use Rattle.std.proofs.Common.{◌≡◌, ◌∙◌, subst, sym, arith, Global, Ok, Result, Vec}
+use Rattle.std.proofs.lemmas.Result.{err_from_is_err_and}
+use Rattle.std.specs.Result.{IfErr}
+use Rattle.tensor_defs.specs.Number.{Root3}
 use Rattle.tensor_defs.specs.Tensor.{index_of}
 use Rattle.tensor_rank.specs.Flags.{marks_of}
-use Rattle.tensor_action.specs.Acting.{CarriesTo, tensor_of}
-use Rattle.tensor_action.proofs.CarryLaws.{carrying-more, carrying-grows, carrying-end, grows_always}
+use Rattle.tensor_action.specs.Acting.{ActGrows, CarriesTo, SumGrows, factor, tensor_of}
+use Rattle.tensor_action.specs.declared.faults.ActFault.{ActFault}
+use Rattle.tensor_action.specs.declared.faults.ActFault.TheVariants as fault
+use Rattle.tensor_action.proofs.CarryLaws.{carrying-more, carrying-grows, carrying-end}
 use Rattle.tensor_action.proofs.action.act.Goals as goal
 
 pub returns-in_err-component-clause-grows : goal.returns-in_err-component-clause-grows
@@ -10,8 +15,10 @@ returns-in_err-component-clause-grows g c =
     let r = g.R.Rank.R in
     let m = marks_of c.args.flags in
     let t = tensor_of c.args.t.now in
-    grows_always c.from_residual-in_err-component.result _ (carrying-grows m c.args.op.now r t c.loop-number.number
-    (subst (λ k. CarriesTo m c.args.op.now r t (index_of r k) (Err c.in_err-component.field-0.0)) c.at.ensures c.in_err-component.ensures))
+    let e = err_from_is_err_and c.from_residual-in_err-component.result c.from_residual-in_err-component.ensures.1 in
+    subst (λ (x : Result (Vec Root3 Global) ActFault). IfErr x (λ f. f ≡ fault.TooLarge → ActGrows m c.args.op.now r t)) (sym e.1)
+    (λ large. carrying-grows m c.args.op.now r t c.loop-number.number
+    (subst (λ k. SumGrows r (factor m c.args.op.now (index_of r k)) t) c.at.ensures (c.in_err-component.ensures.grows (sym e.2 ∙ large))))
 
 pub loop-number-preserved : goal.loop-number-preserved
 loop-number-preserved g c =
@@ -20,7 +27,7 @@ loop-number-preserved g c =
     let t = tensor_of c.args.t.now in
     carrying-more m c.args.op.now r t c.loop-number.number c.loop-number.carried.items c.push.new.self.items
     c.in_ok-component.component c.loop-number.invariant
-    (subst (λ k. CarriesTo m c.args.op.now r t (index_of r k) (Ok c.in_ok-component.component)) c.at.ensures c.in_ok-component.ensures)
+    (subst (λ k. CarriesTo m c.args.op.now r t (index_of r k) (Ok c.in_ok-component.component)) c.at.ensures c.in_ok-component.ensures.ok)
     c.in_ok-push.ensures.items
 
 pub returns-clause-ok : goal.returns-clause-ok

@@ -1,44 +1,77 @@
-use Rattle.std.proofs.Common.{◌≡◌, ◌<◌, ◌^◌, subst, arith, Ok, Err}
+use Rattle.std.proofs.Common.{◌≡◌, ◌<◌, ◌^◌, ◌∙◌, sym, subst, length, arith, refl, Ok}
+use Rattle.std.specs.Prelude.{◌⊎◌}
+use Rattle.tensor_defs.specs.Number.{ProductReaches, PartReaches, add, mul}
 use Rattle.tensor_defs.specs.Tensor.{index_of}
+use Rattle.tensor_laws.proofs.ComponentNumbers.{length-index_of}
 use Rattle.root3_num.specs.Roots.{value_of_root}
 use Rattle.tensor_rank.specs.Flags.{marks_of}
-use Rattle.tensor_action.specs.Acting.{AddsPart, factor, tensor_of}
-use Rattle.tensor_action.proofs.SumLaws.{summed-start, summed-more, summed-grows}
-use Rattle.tensor_action.proofs.CarryLaws.{carried-end, carries-err}
+use Rattle.tensor_action.specs.Acting.{AddsPart, tensor_of}
+use Rattle.tensor_action.specs.Reaching.{AreParts, part_at}
+use Rattle.tensor_action.proofs.CarryLaws.{carried-end, grows_always}
+use Rattle.tensor_action.proofs.Walks.{number_below, part-factor, part_here, read_at, walk-end, walk-grows, walk-more, walk-start}
 use Rattle.tensor_action.proofs.action.component_of.Goals as goal
 
-pub loop-number-init : goal.loop-number-init
-loop-number-init g c =
+pub loop-place-init : goal.loop-place-init
+loop-place-init g c =
     let r = g.R.Rank.R in
-    summed-start r (factor (marks_of c.args.flags) c.args.op.now (index_of r c.args.to)) (tensor_of c.args.t.now) _ c.zero-sum.ensures
+    let i = index_of r c.args.to in
+    let parts : AreParts c.args.op.now i c.as_slice-parts.result.now =
+    subst (AreParts c.args.op.now i) (sym c.as_slice-parts.ensures.value) c.in_ok-parts.ensures.parts in
+    walk-start (marks_of c.args.flags) c.args.op.now r i (length-index_of r c.args.to) 1 (λ _. tensor_of c.args.t.now)
+    c.as_slice-parts.result.now (λ _. c.zero-sum.result) parts (λ k h. c.zero-sum.ensures)
 
-pub returns-in_err-sum : goal.returns-in_err-sum
-returns-in_err-sum g c =
+pub loop-place-preserved : goal.loop-place-preserved
+loop-place-preserved g c =
     let r = g.R.Rank.R in
     let m = marks_of c.args.flags in
     let i = index_of r c.args.to in
-    let f = factor m c.args.op.now i in
-    let t = tensor_of c.args.t.now in
-    let n = c.loop-number.number in
-    let x = value_of_root c.loop-number.sum in
-    let below : n < 3 ^ r = subst (λ k. n < k) g.R.Rank.power (omega (arith, c.loop-number-test.true, c.LEN-number-end.ensures)) in
-    carries-err m c.args.op.now r t i c.from_residual.result c.from_residual.ensures.0
-    (summed-grows r f t n x below c.loop-number.invariant
-    (subst (λ k. AddsPart x (f (index_of r k)) (t (index_of r k)) (Err c.in_err-sum.field-0.0)) c.at.ensures c.in_err-sum.ensures))
+    let long = length-index_of r c.args.to in
+    let t = c.args.t.now in
+    let ps = c.as_slice-parts.result.now in
+    let k = c.loop-place.place in
+    let h : k < length ps = omega (arith, c.loop-place-test.true) in
+    let w = c.loop-place.invariant in
+    let p = part_at ps k in
+    let below : p.number < 3 ^ r = number_below m c.args.op.now r i long 1 (λ _. tensor_of t) ps k h (λ _. c.loop-place.sum) w in
+    let inside : p.number < length t = subst (λ b. p.number < b) (sym (c.requires ∙ g.R.Rank.power)) below in
+    let read : value_of_root c.index-t-part.result ≡ tensor_of t (index_of r p.number) =
+    read_at t r p.number c.index-t-part.result below inside c.index-t-part.is in
+    walk-more m c.args.op.now r i long 1 (λ _. tensor_of t) ps k h (λ _. c.loop-place.sum) w (value_of_root c.factor-factor.result)
+    (part-factor m c.args.op.now r i long 1 (λ _. tensor_of t) c.sign_of-sign.result p (value_of_root c.factor-factor.result)
+    c.sign_of-sign.ensures (part_here m c.args.op.now r i long 1 (λ _. tensor_of t) ps k h (λ _. c.loop-place.sum) w) c.factor-factor.ensures)
+    (λ _. c.in_ok-sum.sum) (λ _ l calm. subst (λ y. AddsPart (value_of_root c.loop-place.sum) (value_of_root c.factor-factor.result) y (Ok c.in_ok-sum.sum))
+    read c.in_ok-sum.ensures)
 
-pub loop-number-preserved : goal.loop-number-preserved
-loop-number-preserved g c =
+pub returns-in_err-sum-clause-grows : goal.returns-in_err-sum-clause-grows
+returns-in_err-sum-clause-grows g c =
     let r = g.R.Rank.R in
-    let f = factor (marks_of c.args.flags) c.args.op.now (index_of r c.args.to) in
-    let t = tensor_of c.args.t.now in
-    let n = c.loop-number.number in
-    let x = value_of_root c.loop-number.sum in
-    let below : n < 3 ^ r = subst (λ k. n < k) g.R.Rank.power (omega (arith, c.loop-number-test.true, c.LEN-number-end.ensures)) in
-    summed-more r f t n x c.in_ok-sum.sum below c.loop-number.invariant
-    (subst (λ k. AddsPart x (f (index_of r k)) (t (index_of r k)) (Ok c.in_ok-sum.sum)) c.at.ensures c.in_ok-sum.ensures)
+    let m = marks_of c.args.flags in
+    let i = index_of r c.args.to in
+    let long = length-index_of r c.args.to in
+    let t = c.args.t.now in
+    let ps = c.as_slice-parts.result.now in
+    let k = c.loop-place.place in
+    let h : k < length ps = omega (arith, c.loop-place-test.true) in
+    let w = c.loop-place.invariant in
+    let p = part_at ps k in
+    let one : 0 < 1 = omega arith in
+    let below : p.number < 3 ^ r = number_below m c.args.op.now r i long 1 (λ _. tensor_of t) ps k h (λ _. c.loop-place.sum) w in
+    let inside : p.number < length t = subst (λ b. p.number < b) (sym (c.requires ∙ g.R.Rank.power)) below in
+    let read : value_of_root c.index-t-part.result ≡ tensor_of t (index_of r p.number) =
+    read_at t r p.number c.index-t-part.result below inside c.index-t-part.is in
+    grows_always c.from_residual-in_err-sum.result _
+    (walk-grows m c.args.op.now r i long 1 (λ _. tensor_of t) ps k h (λ _. c.loop-place.sum) w (value_of_root c.factor-factor.result)
+    (part-factor m c.args.op.now r i long 1 (λ _. tensor_of t) c.sign_of-sign.result p (value_of_root c.factor-factor.result)
+    c.sign_of-sign.ensures (part_here m c.args.op.now r i long 1 (λ _. tensor_of t) ps k h (λ _. c.loop-place.sum) w) c.factor-factor.ensures)
+    0 one (subst (λ y. ProductReaches (value_of_root c.factor-factor.result) y
+    ⊎ PartReaches (add (value_of_root c.loop-place.sum) (mul (value_of_root c.factor-factor.result) y))) read c.in_err-sum.ensures))
 
-pub returns : goal.returns
-returns g c =
-    let last : c.loop-number.number ≡ g.R.Rank.LEN = omega (arith, c.loop-number-test.false, c.LEN-number-end.ensures) in
-    carried-end (marks_of c.args.flags) c.args.op.now g.R.Rank.R c.args.to c.loop-number.number (tensor_of c.args.t.now)
-    c.loop-number.sum (subst (λ k. c.loop-number.number ≡ k) g.R.Rank.power last) c.loop-number.invariant
+pub returns-clause-ok : goal.returns-clause-ok
+returns-clause-ok g c =
+    let r = g.R.Rank.R in
+    let m = marks_of c.args.flags in
+    let t = tensor_of c.args.t.now in
+    let one : 0 < 1 = omega arith in
+    carried-end m c.args.op.now r c.args.to (3 ^ r) t c.loop-place.sum refl
+    (walk-end m c.args.op.now r (index_of r c.args.to) (length-index_of r c.args.to) 1 (λ _. t) c.as_slice-parts.result.now
+    c.loop-place.place (λ _. c.loop-place.sum) (omega (arith, c.loop-place-test.false)) c.loop-place.invariant 0 one)

@@ -1,6 +1,6 @@
 use Rattle.tensor_defs.specs.Tensor.{index_of}
 use Rattle.tensor_rank.specs.IndexLaws.{nth}
-use Rattle.tensor_action.proofs.FactorLaws.{entry_is}
+use Rattle.tensor_action.proofs.Between.{entry_is}
 use Rattle.tensor_action.proofs.coefficients.entry_between.Goals as goal
 
 pub returns : goal.returns

@@ -2,7 +2,7 @@ use Rattle.std.proofs.Common.{◌<◌, ◌≤◌, ◌^◌, length, refl, arith}
 use Rattle.tensor_defs.specs.Tensor.{coefficient, index_of}
 use Rattle.tensor_laws.proofs.ComponentNumbers.{length-index_of}
 use Rattle.tensor_action.specs.Factors.{entry_number, product_number}
-use Rattle.tensor_action.proofs.FactorLaws.{product-start, product-more, product-zero, product-end, within-place, within-more}
+use Rattle.tensor_action.proofs.Between.{product-start, product-more, product-end, within-place, within-more}
 use Rattle.tensor_action.proofs.coefficients.product_between.Goals as goal
 
 pub loop-place-init : goal.loop-place-init
@@ -13,22 +13,10 @@ loop-place-init g c =
       value = product-start c.args.op.now (index_of r c.args.to) (index_of r c.args.from) _ _ c.one-product.ensures.value refl;
     }
 
-pub with_entry-requires : goal.with_entry-requires
-with_entry-requires g c =
+pub with_entry-product-requires : goal.with_entry-product-requires
+with_entry-product-requires g c =
     within-place c.loop-place.place g.R.Rank.R c.loop-place.product
     (omega (arith, c.loop-place-test.true, c.R-place-end.ensures)) g.R.Rank.small c.loop-place.invariant.within
-
-pub returns-in_err-product-clause-value : goal.returns-in_err-product-clause-value
-returns-in_err-product-clause-value g c =
-    let r = g.R.Rank.R in
-    let is = index_of r c.args.to in
-    let js = index_of r c.args.from in
-    let k = c.loop-place.place in
-    let h : k < length is = omega (arith, c.loop-place-test.true, c.R-place-end.ensures, length-index_of r c.args.to) in
-    let l : k < length js = omega (arith, c.loop-place-test.true, c.R-place-end.ensures, length-index_of r c.args.from) in
-    rw c.from_residual.ensures (product-zero c.args.op.now is js (coefficient c.args.op.now is js) k
-    (product_number c.loop-place.product) (entry_number c.entry_between.result) h l c.loop-place.invariant.value
-    c.entry_between.ensures c.in_err-product.ensures.value)
 
 pub loop-place-preserved : goal.loop-place-preserved
 loop-place-preserved g c =
@@ -39,10 +27,10 @@ loop-place-preserved g c =
     let h : k < length is = omega (arith, c.loop-place-test.true, c.R-place-end.ensures, length-index_of r c.args.to) in
     let l : k < length js = omega (arith, c.loop-place-test.true, c.R-place-end.ensures, length-index_of r c.args.from) in
     record {
-      within = within-more k c.in_ok-product.product (c.in_ok-product.ensures.within (3 ^ k) c.loop-place.invariant.within);
+      within = within-more k c.with_entry-product.result (c.with_entry-product.ensures.within (3 ^ k) c.loop-place.invariant.within);
       value = product-more c.args.op.now is js (coefficient c.args.op.now is js) k (product_number c.loop-place.product)
-          (product_number c.in_ok-product.product) (entry_number c.entry_between.result) h l c.loop-place.invariant.value
-          c.entry_between.ensures c.in_ok-product.ensures.value;
+          (product_number c.with_entry-product.result) (entry_number c.entry_between.result) h l c.loop-place.invariant.value
+          c.entry_between.ensures c.with_entry-product.ensures.value;
     }
 
 pub returns-clause-value : goal.returns-clause-value

@@ -1,7 +1,7 @@
 use Rattle.std.proofs.Common.{◌*◌, ◌∙◌, ap, sym}
 use lib.IntN.{pos}
 use Rattle.tensor_defs.specs.Number.{mul, num_one, half_of}
-use Rattle.number_laws.proofs.NumberLaws.{num_mul-one}
+use Rattle.number_laws.proofs.NumberLaws.{num_mul-one, num_mul-zero}
 use Rattle.tensor_action.specs.Factors.{entry_number, product_number}
 use Rattle.tensor_action.proofs.FactorLaws.{one_number, zero_number, minus_one_number, minus_half_number, minus_root_number, with_minus}
 use Rattle.tensor_action.proofs.products.with_entry.Goals as goal
@@ -12,7 +12,9 @@ returns-in-One-clause-value c =
     sym (ap (mul x) (ap entry_number c.in-One.is ∙ one_number) ∙ num_mul-one x)
 
 pub returns-in-Zero-clause-value : goal.returns-in-Zero-clause-value
-returns-in-Zero-clause-value c = ap entry_number c.in-Zero.is ∙ zero_number
+returns-in-Zero-clause-value c =
+    let x = product_number c.args.product in
+    c.nothing.ensures.value ∙ sym (ap (mul x) (ap entry_number c.in-Zero.is ∙ zero_number) ∙ num_mul-zero x)
 
 pub returns-in-MinusHalf-clause-value : goal.returns-in-MinusHalf-clause-value
 returns-in-MinusHalf-clause-value c =

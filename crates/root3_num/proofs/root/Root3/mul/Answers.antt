@@ -24,18 +24,18 @@ returns-in_err-bd c =
     (subst (λ n. ProductReaches (value_of_root r) n) (ap value_of_root c.other.view_is)
     (product-reaches r s c.self.invariant c.other.invariant (inr (inl (c.in_err-bd.ensures))))))
 
-pub returns-in_err-mul : goal.returns-in_err-mul
-returns-in_err-mul c =
+pub returns-in_err-triple : goal.returns-in_err-triple
+returns-in_err-triple c =
     let r : Root3 = record { a = c.self.inside.a; b = c.self.inside.b } in
     let s : Root3 = record { a = c.other.inside.a; b = c.other.inside.b } in
     let ac = c.in_ok-ac.ensures in
     let bd = c.in_ok-bd.ensures in
     let triple : mul (value_of c.of_whole.result) (value_of c.in_ok-bd.bd) ≡ mul (whole (pos 3)) (mul (value_of r.b) (value_of s.b)) =
     λ i. mul (sym c.of_whole.ensures.value.same i) (sym bd.same i) in
-    err-product _ _ _ c.from_residual-in_err-mul.ensures.0
+    err-product _ _ _ c.from_residual-in_err-triple.ensures.0
     (subst (λ n. ProductReaches n (value_of_root c.args.other.now)) (ap value_of_root c.self.view_is)
     (subst (λ n. ProductReaches (value_of_root r) n) (ap value_of_root c.other.view_is)
-    (product-reaches r s c.self.invariant c.other.invariant (inr (inr (inl (subst ReachesLimit triple (c.in_err-mul.ensures))))))))
+    (product-reaches r s c.self.invariant c.other.invariant (inr (inr (inl (subst ReachesLimit triple (c.in_err-triple.ensures))))))))
 
 pub returns-in_err-a : goal.returns-in_err-a
 returns-in_err-a c =
@@ -45,8 +45,8 @@ returns-in_err-a c =
     let bd = c.in_ok-bd.ensures in
     let triple : mul (value_of c.of_whole.result) (value_of c.in_ok-bd.bd) ≡ mul (whole (pos 3)) (mul (value_of r.b) (value_of s.b)) =
     λ i. mul (sym c.of_whole.ensures.value.same i) (sym bd.same i) in
-    let t = c.in_ok-mul.ensures in
-    let first : add (value_of c.in_ok-ac.ac) (value_of c.in_ok-mul.field-0)
+    let t = c.in_ok-triple.ensures in
+    let first : add (value_of c.in_ok-ac.ac) (value_of c.in_ok-triple.triple)
     ≡ add (mul (value_of r.a) (value_of s.a)) (mul (whole (pos 3)) (mul (value_of r.b) (value_of s.b))) =
     λ i. add (sym ac.same i) ((sym t.same ∙ triple) i) in
     err-product _ _ _ c.from_residual-in_err-a.ensures.0
@@ -94,8 +94,8 @@ returns c =
     let bd = c.in_ok-bd.ensures in
     let triple : mul (value_of c.of_whole.result) (value_of c.in_ok-bd.bd) ≡ mul (whole (pos 3)) (mul (value_of r.b) (value_of s.b)) =
     λ i. mul (sym c.of_whole.ensures.value.same i) (sym bd.same i) in
-    let t = c.in_ok-mul.ensures in
-    let first : add (value_of c.in_ok-ac.ac) (value_of c.in_ok-mul.field-0)
+    let t = c.in_ok-triple.ensures in
+    let first : add (value_of c.in_ok-ac.ac) (value_of c.in_ok-triple.triple)
     ≡ add (mul (value_of r.a) (value_of s.a)) (mul (whole (pos 3)) (mul (value_of r.b) (value_of s.b))) =
     λ i. add (sym ac.same i) ((sym t.same ∙ triple) i) in
     let ad = c.in_ok-ad.ensures in
@@ -103,8 +103,8 @@ returns c =
     let second : add (value_of c.in_ok-ad.ad) (value_of c.in_ok-bc.bc)
     ≡ add (mul (value_of r.a) (value_of s.b)) (mul (value_of r.b) (value_of s.a)) =
     λ i. add (sym ad.same i) (sym bc.same i) in
-    let p = product-is r s c.self.invariant c.other.invariant c.in_ok-ac.ac c.in_ok-bd.bd c.in_ok-mul.field-0 c.in_ok-a.a c.in_ok-ad.ad c.in_ok-bc.bc c.in_ok-b.b
-    ac bd (subst (λ x. IsHeldAs x c.in_ok-mul.field-0) triple t) (subst (λ x. IsHeldAs x c.in_ok-a.a) first (c.in_ok-a.ensures))
+    let p = product-is r s c.self.invariant c.other.invariant c.in_ok-ac.ac c.in_ok-bd.bd c.in_ok-triple.triple c.in_ok-a.a c.in_ok-ad.ad c.in_ok-bc.bc c.in_ok-b.b
+    ac bd (subst (λ x. IsHeldAs x c.in_ok-triple.triple) triple t) (subst (λ x. IsHeldAs x c.in_ok-a.a) first (c.in_ok-a.ensures))
     ad bc (subst (λ x. IsHeldAs x c.in_ok-b.b) second (c.in_ok-b.ensures)) in
     let Q : Number → Number → Root3 → Type 0 = λ x y v. IsHeldRoot (mul x y) v × (ProductReaches x y → ⊥) in
     subst (λ n. Q n (value_of_root c.args.other.now) c.of.result) (ap value_of_root c.self.view_is)

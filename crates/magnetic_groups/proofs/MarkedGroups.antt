@@ -1,0 +1,83 @@
+-- Groups told by marks alone.
+--   marked_count    how many operations are marked
+--   marked_has      the mark tells membership
+--   marked_within   marks among others
+--   marked_form     the matrices that are marked
+use Rattle.std.proofs.Common.{◌≡◌, ℕ, zero, suc, ◌+◌, ◌*◌, ◌<◌, ◌≤◌, Bool, true, false, cond, List, [], ◌∷◌, ◌++◌}
+use Rattle.std.proofs.Common.{length, refl, ap, sym, ◌∙◌, arith, subst, ◌⊎◌, inl, inr, add-one, take}
+use Rattle.std.specs.Prelude.{Contains, ◌↔◌, IsTrue}
+use Rattle.std.proofs.lemmas.List.{length-append, take_more, take_all}
+use Rattle.tensor_defs.specs.Operation.{Operation}
+use Rattle.op_matrix.specs.Table.{nth_operation, operation_at, place}
+use Rattle.op_matrix.proofs.Facts.{nth_at, place_of_nth}
+use Rattle.magnetic_groups.specs.Marks.{AreWithin, mark_at, marked_below, unmarked}
+use Rattle.magnetic_groups.specs.Sets.{HasForm, In, IsWithin}
+use Rattle.magnetic_groups.proofs.Marked.{Below, contains_told, contains_of, marked_next, marked_past}
+
+-- ---- how many operations are marked
+unmarked_push : (m : List Bool) (b : Bool) → unmarked (m ++ b ∷ []) ≡ unmarked m + cond b 0 1
+unmarked_push [] true = refl
+unmarked_push [] false = refl
+unmarked_push (true ∷ m) b = unmarked_push m b
+unmarked_push (false ∷ m) b = let e = unmarked_push m b in omega (arith, e)
+
+length_next : (n : ℕ) (m : List Bool) (b : Bool) → mark_at m n ≡ b →
+    length (marked_below (n + 1) m) + cond b 0 1 ≡ length (marked_below n m) + 1
+length_next n m true e =
+    let f = ap length (marked_next n m e) in
+    let l = length-append (marked_below n m) (nth_operation n ∷ []) in
+    omega (arith, f, l)
+length_next n m false e = let f = ap length (marked_past n m e) in omega (arith, f)
+
+count_below : (n : ℕ) (m : List Bool) → n ≤ length m → length (marked_below n m) + unmarked (take n m) ≡ n
+unfolding marked_below
+count_below zero m h = refl
+count_below (suc n) m h =
+    let r = count_below n m (omega arith) in
+    let t = ap unmarked (take_more m n false (omega arith)) ∙ unmarked_push (take n m) (mark_at m n) in
+    let l = length_next n m (mark_at m n) refl in
+    subst (λ k. length (marked_below k m) + unmarked (take k m) ≡ k) (add-one n) (omega (arith, r, t, l))
+
+pub marked_count : (m : List Bool) → length m ≡ 128 → length (marked_below 128 m) + unmarked m ≡ 128
+marked_count m e =
+    subst (λ x. length (marked_below 128 m) + unmarked x ≡ 128) (take_all 128 m (omega arith)) (count_below 128 m (omega arith))
+
+-- ---- the mark tells membership
+told_at : (m : List Bool) (k : ℕ) → k < 128 → Contains (marked_below 128 m) (nth_operation k) → mark_at m k ≡ true
+told_at m k h c =
+    let b : Below 128 m (nth_operation k) = contains_told 128 m (nth_operation k) c in
+    subst (λ x. mark_at m x ≡ true) (sym (place_of_nth b.0 b.1) ∙ ap place (sym b.3) ∙ place_of_nth k h) b.2
+
+pub marked_has : (m : List Bool) (g : Operation) (b : Bool) → b ≡ mark_at m (place g) → place g < 128 →
+    g ≡ nth_operation (place g) → IsTrue b ↔ Contains (marked_below 128 m) g
+marked_has m g b e h at = (
+  λ t. subst (Contains (marked_below 128 m)) (sym at) (contains_of 128 (place g) m h (sym e ∙ t)),
+  λ c. e ∙ told_at m (place g) h (subst (Contains (marked_below 128 m)) at c),
+)
+
+-- ---- marks among others
+pub marked_within : (m m' : List Bool) (b : Bool) → (IsTrue b ↔ AreWithin m m') → IsTrue b ↔ IsWithin (marked_below 128 m) (marked_below 128 m')
+marked_within m m' b w = (
+  λ t g c. let r : Below 128 m g = contains_told 128 m g c in
+      subst (Contains (marked_below 128 m')) (sym r.3) (contains_of 128 r.0 m' r.1 (w.0 t r.0 r.1 r.2)),
+  λ v. w.1 (λ k h e. told_at m' k h (v (nth_operation k) (contains_of 128 k m h e))),
+)
+
+-- ---- the matrices that are marked
+even_form : (c : ℕ) → nth_operation (2 * c) ≡ operation_at c false
+even_form c = let s : 2 * c ≡ 2 * c + 0 = omega arith in ap nth_operation s ∙ nth_at c false
+
+odd_form : (c : ℕ) → nth_operation (2 * c + 1) ≡ operation_at c true
+odd_form c = nth_at c true
+
+pub marked_form : (m : List Bool) (c : ℕ) (P : Type 0) → c < 64 → (P ↔ ((mark_at m (2 * c) ≡ true) ⊎ (mark_at m (2 * c + 1) ≡ true))) →
+    P ↔ HasForm (In (marked_below 128 m)) c
+marked_form m c P h w = (λ x. forth (w.0 x), λ f. w.1 (back f.0 f.1))
+  where
+    forth : (mark_at m (2 * c) ≡ true) ⊎ (mark_at m (2 * c + 1) ≡ true) → HasForm (In (marked_below 128 m)) c
+    forth (inl e) = (false, subst (Contains (marked_below 128 m)) (even_form c) (contains_of 128 (2 * c) m (omega arith) e))
+    forth (inr e) = (true, subst (Contains (marked_below 128 m)) (odd_form c) (contains_of 128 (2 * c + 1) m (omega arith) e))
+
+    back : (b : Bool) → Contains (marked_below 128 m) (operation_at c b) → (mark_at m (2 * c) ≡ true) ⊎ (mark_at m (2 * c + 1) ≡ true)
+    back false d = inl (told_at m (2 * c) (omega arith) (subst (Contains (marked_below 128 m)) (sym (even_form c)) d))
+    back true d = inr (told_at m (2 * c + 1) (omega arith) (subst (Contains (marked_below 128 m)) (sym (odd_form c)) d))

@@ -1,0 +1,54 @@
+-- From which components a component of a carried tensor takes.
+--   Covers          rising numbers in a range, with a fact at each number that is left out
+--   IsNone          the coefficient of the component of a number is 0
+--   Reaches         the numbers of the components whose coefficient in a component may be other than 0
+--   IsPart          the product of a part is the coefficient of its component
+--   part_at, numbers, ArePartsBelow    the part at a place; the numbers of parts; those below an end: their numbers, and their products
+--   AreParts        all parts of a component
+--   Extends         the parts with one index more in front, up to those of a column
+-- Source: International Tables D 1.1.
+use Rattle.std.specs.Prelude.{◌≡◌, ℕ, ◌+◌, ◌*◌, ◌<◌, ◌≤◌, ◌^◌, List, [], ◌∷◌, length, map, get_or}
+use Rattle.tensor_defs.specs.Lists.{Each}
+use Rattle.tensor_defs.specs.Number.{num_zero}
+use Rattle.tensor_defs.specs.Operation.{Axis, Operation}
+use Rattle.tensor_defs.specs.Tensor.{Index, coefficient, index_of}
+use Rattle.tensor_defs.specs.declared.Sign.TheVariants.{Plus}
+use Rattle.tensor_action.specs.Factors.{IsWithin, product_number}
+use Rattle.tensor_action.specs.declared.parts.Part.{Part}
+
+abbrev pub Covers : (ℕ → Type 0) → ℕ → List ℕ → ℕ → Type 0
+Covers Z from [] end = (from ≤ end) × ((c : ℕ) → from ≤ c → c < end → Z c)
+Covers Z from (n ∷ ns) end = (from ≤ n) × (n < end) × ((c : ℕ) → from ≤ c → c < n → Z c) × Covers Z (n + 1) ns end
+
+abbrev pub IsNone : Operation → Index → ℕ → Type 0
+IsNone g is c = coefficient g is (index_of (length is) c) ≡ num_zero
+
+abbrev pub Reaches : Operation → Index → List ℕ → Type 0
+Reaches g is ns = Covers (IsNone g is) 0 ns (3 ^ length is)
+
+abbrev pub none_part : Part
+none_part = record { number = 0; product = record { sign = Plus; rational = 0; root = 0; below = 0 } }
+
+abbrev pub part_at : List Part → ℕ → Part
+part_at ps k = get_or ps k none_part
+
+abbrev pub numbers : List Part → List ℕ
+numbers ps = map (λ p. p.number) ps
+
+pub record IsPart (g : Operation) (is : Index) (p : Part) : Type 0 where
+  pub value : product_number p.product ≡ coefficient g is (index_of (length is) p.number)
+  pub within : IsWithin (3 ^ length is) p.product
+
+-- those below an end
+pub record ArePartsBelow (g : Operation) (is : Index) (ps : List Part) (end : ℕ) : Type 0 where
+  pub covers : Covers (IsNone g is) 0 (numbers ps) end
+  pub parts : Each (IsPart g is) ps
+
+abbrev pub AreParts : Operation → Index → List Part → Type 0
+AreParts g is ps = ArePartsBelow g is ps (3 ^ length is)
+
+-- of w components each, those of the column stand behind the offset
+abbrev pub Extends : Operation → Axis → ℕ → ℕ → List Part → List Part → List Part → Type 0
+Extends g i col offset ps old new =
+    (is : Index) (w : ℕ) → w ≡ 3 ^ length is → offset ≡ w * col → AreParts g is ps →
+    ArePartsBelow g (i ∷ is) old offset → ArePartsBelow g (i ∷ is) new (offset + w)
