@@ -1,7 +1,7 @@
 -- Marks of the unknowns of a row.
 --   IsMarking, marking-start, marking-step, marking-end    marking one entry after the other
 --   AreMet, met-less, met-same    a row is 0 at each unknown that isn't marked
-use Rattle.std.proofs.Common.{◌≡◌, ◌≢◌, ℕ, ◌+◌, ◌%◌, ◌<◌, ◌≤◌, Bool, true, false, List, [], ◌∷◌, length, get_or, drop, ap, sym, ◌∙◌, refl, subst, arith}
+use Rattle.std.proofs.Common.{◌≡◌, ◌≢◌, ℕ, ◌+◌, ◌%◌, ◌<◌, ◌≤◌, Bool, true, false, List, length, get_or, drop, ap, sym, ◌∙◌, refl, subst, arith}
 use Rattle.std.specs.Prelude.{slice_set}
 use Rattle.std.proofs.lemmas.List.{get_or-set_other, drop_all, length-set}
 use Rattle.std.proofs.lemmas.Grind.{get_or-set_at}

@@ -1,4 +1,4 @@
-use Rattle.std.proofs.Common.{◌≡◌, ◌≤◌, length, take, drop}
+use Rattle.std.proofs.Common.{◌≡◌, length, take, drop}
 use Rattle.sparse_rows.specs.KeptRows.{kept_of, kepts, AreRows}
 use Rattle.sparse_rows.proofs.RowSteps.{IsClearing}
 use Rattle.sparse_rows.proofs.steps.clear_all.Given as goal

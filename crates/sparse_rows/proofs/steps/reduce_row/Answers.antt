@@ -1,6 +1,6 @@
-use Rattle.std.proofs.Common.{◌≡◌, ◌∙◌, ◌<◌, ◌+◌, ℕ, ap, sym, subst, length, drop, false, arith}
+use Rattle.std.proofs.Common.{◌≡◌, ◌∙◌, ◌<◌, ◌+◌, ap, sym, subst, length, drop, false, arith}
 use Rattle.std.proofs.lemmas.Bool.{eqb-true}
-use Rattle.tensor_defs.specs.Number.{num_zero, value_of}
+use Rattle.tensor_defs.specs.Number.{value_of}
 use Rattle.sparse_rows.specs.Rows.{coeff, IsRow}
 use Rattle.sparse_rows.specs.Marks.{is_marked}
 use Rattle.sparse_rows.specs.KeptRows.{kept_of, kepts, IsFound}

@@ -1,4 +1,4 @@
-use Rattle.std.proofs.Common.{◌≡◌, ◌≤◌}
+use Rattle.std.proofs.Common.{◌≤◌}
 use Rattle.tensor_rank.specs.Orders.{AreSpelled}
 use Rattle.tensor_rank.proofs.orders.spelled_numbers.Given as goal
 
