@@ -1,7 +1,7 @@
--- What is read off a group: places, subsets and frames.
-use Rattle.std.proofs.Common.{◌≡◌, ℕ, ◌<◌, ◌≤◌, Bool, true, false, List, length, refl, ap, sym, ◌∙◌, subst}
+-- What is read off a group: places and frames.
+use Rattle.std.proofs.Common.{◌≡◌, ℕ, ◌<◌, ◌≤◌, Bool, true, false, List, length, ap, sym, ◌∙◌, subst}
 use Rattle.std.proofs.Common.{inl, inr}
-use Rattle.std.specs.Prelude.{slice_index_or, slice_get, Option, Some, None, is_some, not, Contains, ◌↔◌, IsTrue}
+use Rattle.std.specs.Prelude.{slice_index_or, slice_get, Option, Some, Contains, ◌↔◌, IsTrue}
 use Rattle.std.specs.Prelude.{nat_eq}
 use Rattle.std.proofs.lemmas.List.Elements.{Contains-get_or}
 use Rattle.std.proofs.lemmas.Option.{slice_get-get_or}
@@ -9,12 +9,12 @@ use Rattle.std.proofs.lemmas.Bool.{eqb-true, false≢true}
 use Rattle.tensor_defs.specs.declared.OpKind.TheVariants.{Three}
 use Rattle.tensor_defs.specs.declared.Direction.TheVariants.{Z}
 use Rattle.tensor_defs.specs.Symbols.{operation_of}
-use Rattle.tensor_defs.specs.Operation.{Operation, identity}
+use Rattle.tensor_defs.specs.Operation.{Operation}
 use Rattle.tensor_defs.specs.Frames.{IsPlain, IsHexagonal, AllOf, IsThe, IsFramed}
 use Rattle.op_matrix.specs.Table.{place}
 use Rattle.op_matrix.specs.Laws.{HasFrame}
 use Rattle.op_matrix.proofs.Order.{same_place}
-use Rattle.magnetic_groups.specs.Sets.{In, HaveFrame, IsKept, IsWithin, TellsOutside}
+use Rattle.magnetic_groups.specs.Sets.{In, HaveFrame, IsKept}
 use Rattle.magnetic_groups.proofs.Marked.{marked_length}
 
 pub member_framed : (items : List Operation) (g : Operation) → HaveFrame items → Contains items g → HasFrame g
@@ -39,16 +39,6 @@ found_at gens items view m n g op i e h at c t =
         same_place g op (member_framed items g i.group.frame inside)
         (member_framed items op i.group.frame (subst (λ xs. Contains xs op) (sym e) c))
         (eqb-true (place g) (place op) t)
-
-pub subset_told : (xs ys : List Operation) (r : Option ℕ) (b : Bool) → is_some r ≡ not b → TellsOutside xs ys r →
-    IsTrue b ↔ IsWithin xs ys
-subset_told xs ys None true e t = (λ h. t, λ w. refl)
-subset_told xs ys None false e t = cc
-subset_told xs ys (Some k) true e t = cc
-subset_told xs ys (Some k) false e t = (
-  λ h. absurd (false≢true h),
-  λ w. absurd (t.outside identity (w (slice_index_or xs k identity) (Contains-get_or xs k identity t.below))),
-)
 
 -- not all plain, so all hexagonal; then framed exactly where 3z is an element
 pub framed_told : (xs : List Operation) (turn : Operation) (p b : Bool) (o : Option Operation) →

@@ -4,7 +4,7 @@ ghost use Rattle.tensor_defs.specs.Operation.{Operation};
 ghost use Rattle.tensor_defs.specs.Lists.{IsListing};
 ghost use Rattle.tensor_defs.specs.OperationOrder.{comes_before};
 ghost use Rattle.magnetic_groups.specs.Marks.{marked_below, Added, Grows, IsClosed, IsClosing, IsDone, Reached, unmarked};
-ghost use Rattle.magnetic_groups.specs.Sets.{HaveFrame, IsKept, Spanned};
+ghost use Rattle.magnetic_groups.specs.Sets.{HaveFrame, IsGroup, IsKept, Spanned};
 
 use crate::Group;
 use crate::found::Found;
@@ -89,7 +89,8 @@ fn list_places(
 
 /// The marked operations, in their order.
 fn list_marked(alloc: Global, marks: &Marks) -> Result<Vec<Op>, AllocError>
-    ensures { IfOk result (λ v. v.items ≡ marked_below 128 marks.now) }
+    ensures listed { IfOk result (λ v. v.items ≡ marked_below 128 marks.now) }
+    ensures sized { length marks.now ≡ 128 }
 {
     let mut elements = Vec::with_capacity(alloc, marks.count())?;
     let matrices = marks.matrices();
@@ -108,6 +109,20 @@ pub fn close(alloc: Global, generators: Vec<Op>) -> Result<Group, AllocError>
 {
     let marks = close_marks(&generators);
     let elements = list_marked(alloc, &marks)?;
+    Ok(Group {
+        elements,
+        marks,
+        generators,
+    })
+}
+
+/// The group of the marked operations. All of its elements generate it.
+pub fn of_marks(alloc: Global, marks: Marks) -> Result<Group, AllocError>
+    requires { IsGroup (marked_below 128 marks) }
+    ensures { IfOk result (λ g. g ≡ marked_below 128 marks) }
+{
+    let elements = list_marked(alloc, &marks)?;
+    let generators = copied(alloc, &elements)?;
     Ok(Group {
         elements,
         marks,

@@ -1,16 +1,18 @@
 //! The elements that stay in the group when an operation carries them.
+ghost use Rattle.std.specs.Prelude.{IfOk};
 ghost use Rattle.tensor_defs.specs.Lists.{IsListing};
 ghost use Rattle.tensor_defs.specs.OperationOrder.{comes_before};
 ghost use Rattle.tensor_defs.specs.States.{InPairGroup};
 ghost use Rattle.magnetic_groups.specs.Sets.{FitsFrame, In};
 
 use crate::marks::Marks;
-use crate::{Group, GroupMarks};
+use crate::{Group, GroupMarks, NoMemory};
 use op_matrix::Op;
+use std::alloc::Global;
 
 impl Group {
-    /// The group of those elements h for which op⁻¹·h·op is an element. Source: International Tables D 3.4.
-    pub fn meet_conjugate(&self, op: &Op) -> GroupMarks
+    /// The group of those elements h for which op⁻¹·h·op is an element, by its marks.
+    fn conjugate_marks(&self, op: &Op) -> GroupMarks
         requires { FitsFrame self.now op.now }
         ensures { IsListing comes_before (InPairGroup (In self.now) op.now) result }
     {
@@ -25,5 +27,12 @@ impl Group {
             }
         }
         GroupMarks::new(marks)
+    }
+    /// The group of those elements h for which op⁻¹·h·op is an element. Source: International Tables D 3.4.
+    pub fn meet_conjugate(&self, alloc: Global, op: &Op) -> Result<Group, NoMemory>
+        requires { FitsFrame self.now op.now }
+        ensures { IfOk result (λ g. IsListing comes_before (InPairGroup (In self.now) op.now) g) }
+    {
+        self.conjugate_marks(op).list(alloc)
     }
 }

@@ -1,11 +1,14 @@
 //! Groups by the marks of their elements alone.
-ghost use Rattle.std.specs.Prelude.{◌≡◌, ◌<◌, ◌↔◌, ℕ, IsTrue, Contains, length};
+ghost use Rattle.std.specs.Prelude.{◌≡◌, ◌<◌, ◌↔◌, ℕ, IfOk, IsTrue, Contains, length};
 ghost use Rattle.std.specs.Int.{bit_at};
 ghost use Rattle.magnetic_groups.specs.Marks.{marked_below};
 ghost use Rattle.magnetic_groups.specs.Sets.{HasForm, In, IsGroup, IsWithin};
 
+use crate::closing::of_marks;
 use crate::marks::Marks;
+use crate::{Group, NoMemory};
 use op_matrix::Op;
+use std::alloc::Global;
 use std::marker::Model;
 
 /// A group by the marks of its elements.
@@ -63,5 +66,12 @@ impl GroupMarks {
         ensures { (c : ℕ) → c < 64 → (bit_at result c ≡ 1) ↔ HasForm (In self.now) c }
     {
         self.marks.matrices()
+    }
+    /// The group with its elements in their order.
+    pub fn list(&self, alloc: Global) -> Result<Group, NoMemory>
+        ensures { IfOk result (λ g. g ≡ self.now) }
+    {
+        let group = of_marks(alloc, self.marks.copied())?;
+        Ok(group)
     }
 }

@@ -41,15 +41,17 @@ fn a_joined_group(rt: HostRuntime) -> Result<(), Fail> {
     assert_eq!(rt; one.len(), 1);
     let reversal = Op::reversal();
     assert!(rt; reversal.is_plain() && one.is_all_plain());
-    let kept = one.meet_conjugate(&reversal);
-    let marks = one.joined_marks(rt.alloc(), &reversal)?;
     let grey = one.joined(rt.alloc(), &reversal)?;
+    let kept = one.meet_conjugate(rt.alloc(), &reversal)?;
+    assert!(rt; kept.len() == 1 && kept.at(0) == Op::identity() && kept.is_subset(&one));
     assert_eq!(rt; grey.len(), 2);
     assert_eq!(rt; grey.place_of(&reversal), Some(1));
     assert_eq!(rt; grey.first_outside(&one), Some(1));
     assert!(rt; one.is_subset(&grey) && !grey.is_subset(&one) && one.place_of(&reversal).is_none());
+    let marks = grey.marks();
     assert!(rt; marks.len() == 2 && marks.has(&reversal) && marks.matrices() == 1);
-    assert!(rt; one.marks().is_subset(&marks) && !marks.is_subset(&kept));
+    assert!(rt; one.marks().is_subset(&marks) && !marks.is_subset(&kept.marks()));
+    assert_eq!(rt; marks.list(rt.alloc())?.at(1), reversal);
     Ok(())
 }
 

@@ -16,9 +16,9 @@ ghost use Rattle.twin_pairs.specs.Classes.{AreAdded, AreMarked, AreMembers, HasN
 mod tests;
 
 use coset_states::States;
-use group_names::first_name;
+use group_names::name_of;
 use group_symbol::SymbolTree;
-use magnetic_groups::GroupMarks;
+use magnetic_groups::Group;
 use op_matrix::Op;
 use std::alloc::{AllocError, Global};
 use std::marker::Model;
@@ -35,6 +35,12 @@ impl From<AllocError> for NoMemory {
 
 impl From<magnetic_groups::NoMemory> for NoMemory {
     fn from(_: magnetic_groups::NoMemory) -> NoMemory {
+        NoMemory
+    }
+}
+
+impl From<group_names::NoMemory> for NoMemory {
+    fn from(_: group_names::NoMemory) -> NoMemory {
         NoMemory
     }
 }
@@ -78,11 +84,11 @@ pub struct PairClass {
     /// Whether an element of the whole group exchanges the two states.
     pub swappable: bool,
     /// The elements that keep both states.
-    pub pair_group: GroupMarks,
+    pub pair_group: Group,
     /// Its name.
     pub pair_name: Option<SymbolTree>,
     /// The group that the subgroup and the least state's representative generate.
-    pub twin_group: GroupMarks,
+    pub twin_group: Group,
     /// Its name.
     pub twin_name: Option<SymbolTree>,
 }
@@ -177,18 +183,19 @@ fn is_swappable(states: &States, element: &Op) -> bool
 
 /// The name of a pair group. Where it is the whole subgroup, its name is known.
 fn pair_name(
-    sub: &GroupMarks,
+    alloc: Global,
+    sub: &Group,
     sub_name: &Option<SymbolTree>,
-    pair_group: &GroupMarks,
-) -> Option<SymbolTree>
+    pair_group: &Group,
+) -> Result<Option<SymbolTree>, NoMemory>
     requires named { IsNameOf sub_name.now (In sub.now) }
     requires below { IsWithin pair_group.now sub.now }
-    ensures { IsNameOf result (In pair_group.now) }
+    ensures { IfOk result (λ o. IsNameOf o (In pair_group.now)) }
 {
     if sub.is_subset(pair_group) {
-        return *sub_name;
+        return Ok(*sub_name);
     }
-    first_name(pair_group)
+    Ok(name_of(alloc, pair_group)?)
 }
 
 /// The class of the state `k`, the least of its class.
@@ -211,10 +218,10 @@ fn pair_class(
     let members = list_members(alloc, states, element, k)?;
     let swappable = is_swappable(states, element);
     let sub = states.sub();
-    let pair_group = sub.meet_conjugate(element);
-    let pair_name = pair_name(&sub.marks(), sub_name, &pair_group);
-    let twin_group = sub.joined_marks(alloc, element)?;
-    let twin_name = first_name(&twin_group);
+    let pair_group = sub.meet_conjugate(alloc, element)?;
+    let pair_name = pair_name(alloc, sub, sub_name, &pair_group)?;
+    let twin_group = sub.joined(alloc, element)?;
+    let twin_name = name_of(alloc, &twin_group)?;
     Ok(PairClass {
         members,
         swappable,
@@ -237,7 +244,7 @@ fn append(classes: &mut Vec<PairClass>, class: PairClass) -> Result<(), AllocErr
 pub fn pair_classes(alloc: Global, states: &States) -> Result<Vec<PairClass>, NoMemory>
     ensures { IfOk result (λ v. ArePairClasses (In states.now.whole) (In states.now.sub) states.now.reps (map class_of v.items)) }
 {
-    let sub_name = first_name(&states.sub().marks());
+    let sub_name = name_of(alloc, states.sub())?;
     let mut classes = Vec::new(alloc);
     let mut seen = [false; 129];
     for place in 0..states.count() {

@@ -2,7 +2,7 @@
 use super::*;
 use coset_states::list_states;
 use group_symbol::read_group;
-use magnetic_groups::{Group, build_group};
+use magnetic_groups::build_group;
 use std::test::Fail;
 
 fn group_of(alloc: Global, text: &str) -> Option<Group> {

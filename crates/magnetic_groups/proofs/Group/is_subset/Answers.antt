@@ -1,7 +1,9 @@
-use Rattle.magnetic_groups.proofs.Members.{subset_told}
+use Rattle.std.proofs.Common.{subst}
+use Rattle.std.specs.Prelude.{IsTrue, ◌↔◌}
+use Rattle.magnetic_groups.specs.Sets.{IsWithin}
 use Rattle.magnetic_groups.proofs.Group.is_subset.Goals as goal
 
 pub returns : goal.returns
 returns c =
-    subset_told c.args.self.now c.args.other.now c.first_outside.result c.is_none.result c.is_none.ensures
-    c.first_outside.ensures
+    subst (λ xs. IsTrue c.is_subset.result ↔ IsWithin xs c.args.other.now) c.marks-marks.ensures
+    (subst (λ ys. IsTrue c.is_subset.result ↔ IsWithin c.marks-marks.result ys) c.marks-others.ensures c.is_subset.ensures)

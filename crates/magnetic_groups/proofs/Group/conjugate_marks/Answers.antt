@@ -7,8 +7,8 @@ use Rattle.op_matrix.proofs.Order.{placed}
 use Rattle.magnetic_groups.proofs.Members.{member_framed}
 use Rattle.magnetic_groups.specs.Sets.{In}
 use Rattle.magnetic_groups.proofs.Meeting.{IsMeeting, meeting_none, meeting_skip, meeting_more, met_group, met_listing, inverse_common, half_common, pair_told}
-use Rattle.magnetic_groups.proofs.Group.meet_conjugate.Goals as goal
-use Rattle.magnetic_groups.proofs.Group.meet_conjugate.Goals.{then-has, else-has}
+use Rattle.magnetic_groups.proofs.Group.conjugate_marks.Goals as goal
+use Rattle.magnetic_groups.proofs.Group.conjugate_marks.Goals.{then-has, else-has}
 
 pub loop-place-init : goal.loop-place-init
 loop-place-init c = λ i f. subst (IsMeeting c.args.self.now c.args.op.now i f 0) (sym c.none-marks.ensures)
