@@ -184,8 +184,9 @@ fn turning_row_of<R: Rank>(
     parts: &[Part],
 ) -> Option<(usize, bool)> {
     let none = Group::trivial(alloc).ok()?;
-    let classes = axis_classes(alloc, &none, shape, &Order::index()).ok()?;
-    let rows = turning_rows(alloc, &classes, &Order::index()).ok()?;
+    let order = Order::index();
+    let classes = axis_classes(alloc, &none, shape, &order).ok()?;
+    let rows = turning_rows(alloc, &classes, &order).ok()?;
     Some((rows.len(), rows.get(place)?.parts() == parts))
 }
 
