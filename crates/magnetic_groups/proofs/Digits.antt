@@ -5,18 +5,20 @@
 --   count_told     how many places aren't marked
 --   within_told    each mark is among others
 --   either_told    the matrices that are marked
-use Rattle.std.proofs.Common.{◌≡◌, ◌≢◌, ℕ, zero, suc, ◌+◌, ◌*◌, ◌/◌, ◌%◌, ◌^◌, ◌<◌, ◌≤◌, Bool, true, false, cond, List}
+--   shifted_digit, next_told, gap_skipped    the digits from a place on, the next 1 among them, and matrices that aren't marked
+use Rattle.std.proofs.Common.{◌≡◌, ◌≢◌, ℕ, zero, suc, ◌+◌, ◌*◌, ◌/◌, ◌%◌, ◌^◌, ◌<◌, ◌≤◌, ◌-◌, Bool, true, false, cond, List}
 use Rattle.std.proofs.Common.{length, refl, ap, sym, ◌∙◌, arith, subst, lit<, ◌⊎◌, inl, inr}
 use Rattle.std.specs.Prelude.{nat_eq, replicate, set, bit_and, bit_or, IsTrue, ◌↔◌}
-use Rattle.std.specs.Int.{bit_at, w64, bit_not}
+use Rattle.std.specs.Int.{bit_at, w64, bit_not, trailing_zeros}
 use Rattle.std.specs.Int.RustNames.{count_ones}
 use Rattle.std.proofs.lemmas.Bool.{cases_eq, cases_lt, eqb-true}
 use Rattle.std.proofs.lemmas.List.{length-set, get_or-set_same, get_or-set_other}
 use Rattle.std.proofs.lemmas.List.FromFn.{fill_by_all}
-use Rattle.std.proofs.Math.Nat.{pow-succ'}
+use Rattle.std.proofs.Math.Nat.{pow-succ', div-one, div-div-eq-div-mul, div-le_self}
 use Rattle.std.proofs.lemmas.Nat.{ones_cat, and_le_l}
-use Rattle.std.proofs.lemmas.Nat.Bits.{bit_at_lowest, bit_at-suc, bit_at-zero, shr_and_one, bit_at_and, bit_at_or, bit_at_not, bit_at_set_same, bit_at_set_other, bit_at-lt, same_from_bits_below}
-use Rattle.magnetic_groups.specs.Marks.{mark_at, unmarked, digit_at, marks_from, marks_of, AreWithin}
+use Rattle.std.proofs.lemmas.Nat.Bits.{bit_at_lowest, bit_at-suc, bit_at-zero, shr_and_one, bit_at_and, bit_at_or, bit_at_not, bit_at_set_same, bit_at_set_other, bit_at-lt, bit_at_above, bit_at-trailing_zeros, same_from_bits_below}
+use Rattle.magnetic_groups.specs.Marks.{mark_at, marked_below, unmarked, digit_at, marks_from, marks_of, AreWithin}
+use Rattle.magnetic_groups.proofs.Marked.{marked_past_both}
 
 from_length : (n u p : ℕ) → length (marks_from n u p) ≡ 2 * n
 from_length zero u p = refl
@@ -246,3 +248,59 @@ either_told u p c h = (λ e. forth e (cases_eq (bit_at u c) 1), back)
         let b = bit_at-lt u c in
         let a : bit_at p c ≡ 1 = eqb-true _ _ (sym (primed_of u p c h) ∙ t) in
         omega (arith, m, a, b)
+
+-- ---- the digits from a place on
+pub shifted_digit : (n k i : ℕ) → bit_at (n / 2 ^ k) i ≡ bit_at n (k + i)
+shifted_digit n zero i =
+    let e : i ≡ zero + i = omega arith in
+    ap (λ x. bit_at x i) (div-one n) ∙ ap (bit_at n) e
+shifted_digit n (suc k) i =
+    let e : suc k + i ≡ suc (k + i) = omega arith in
+    ap (λ x. bit_at (n / x) i) (pow-succ' 2 k) ∙ ap (λ x. bit_at x i) (sym (div-div-eq-div-mul n 2 (2 ^ k)))
+    ∙ shifted_digit (n / 2) k i ∙ sym (bit_at-suc n (k + i)) ∙ ap (bit_at n) (sym e)
+
+-- the least place from k on with a digit 1
+pub next_told : (n k : ℕ) → n < 2 ^ 64 → n / 2 ^ k ≢ 0 →
+    (k + trailing_zeros w64 (n / 2 ^ k) < 64) × (bit_at n (k + trailing_zeros w64 (n / 2 ^ k)) ≡ 1)
+    × ((c : ℕ) → k ≤ c → c < k + trailing_zeros w64 (n / 2 ^ k) → bit_at n c ≡ 0)
+next_told n k small some = (below (cases_lt (k + trailing_zeros w64 (n / 2 ^ k)) 64), one, before)
+  where
+    less : n / 2 ^ k < 2 ^ 64
+    less = let l = div-le_self n (2 ^ k) in omega (arith, l, small)
+
+    there : 0 < n / 2 ^ k
+    there = omega (arith, some)
+
+    one : bit_at n (k + trailing_zeros w64 (n / 2 ^ k)) ≡ 1
+    one = sym (shifted_digit n k (trailing_zeros w64 (n / 2 ^ k))) ∙ (bit_at-trailing_zeros w64 (n / 2 ^ k) there less).1
+
+    below : (k + trailing_zeros w64 (n / 2 ^ k) < 64) ⊎ (64 ≤ k + trailing_zeros w64 (n / 2 ^ k)) → k + trailing_zeros w64 (n / 2 ^ k) < 64
+    below (inl h) = h
+    below (inr h) = let no = bit_at_above n 64 (k + trailing_zeros w64 (n / 2 ^ k)) small h in absurd (omega (arith, one, no))
+
+    before : (c : ℕ) → k ≤ c → c < k + trailing_zeros w64 (n / 2 ^ k) → bit_at n c ≡ 0
+    before c h l =
+        let e : k + (c - k) ≡ c = omega arith in
+        ap (bit_at n) (sym e) ∙ sym (shifted_digit n k (c - k))
+        ∙ (bit_at-trailing_zeros w64 (n / 2 ^ k) there less).2 (c - k) (omega arith)
+
+gap_told : (m : List Bool) (a k : ℕ) → ((c : ℕ) → a ≤ c → c < a + k → ¬ ((mark_at m (2 * c) ≡ true) ⊎ (mark_at m (2 * c + 1) ≡ true))) →
+    marked_below (2 * (a + k)) m ≡ marked_below (2 * a) m
+gap_told m a zero d =
+    let e : 2 * (a + 0) ≡ 2 * a = omega arith in
+    ap (λ n. marked_below n m) e
+gap_told m a (suc k) d =
+    let e : 2 * (a + suc k) ≡ 2 * (a + k + 1) = omega arith in
+    ap (λ n. marked_below n m) e ∙ marked_past_both (a + k) m (d (a + k) (omega arith) (omega arith))
+    ∙ gap_told m a k (λ c f h. d c f (omega arith))
+
+-- no operation is marked whose matrix has a digit 0
+pub gap_skipped : (r : ℕ) (m : List Bool) (a b : ℕ) →
+    ((c : ℕ) → c < 64 → (bit_at r c ≡ 1) ↔ ((mark_at m (2 * c) ≡ true) ⊎ (mark_at m (2 * c + 1) ≡ true))) →
+    a ≤ b → b ≤ 64 → ((c : ℕ) → a ≤ c → c < b → bit_at r c ≡ 0) → marked_below (2 * b) m ≡ marked_below (2 * a) m
+gap_skipped r m a b told h l d =
+    let e : a + (b - a) ≡ b = omega arith in
+    ap (λ n. marked_below (2 * n) m) (sym e) ∙ gap_told m a (b - a) (λ c f i t. none c f (omega arith) t)
+  where
+    none : (c : ℕ) → a ≤ c → c < b → ¬ ((mark_at m (2 * c) ≡ true) ⊎ (mark_at m (2 * c + 1) ≡ true))
+    none c f i t = let one = (told c (omega arith)).1 t in let no = d c f i in absurd (omega (arith, one, no))

@@ -1,5 +1,6 @@
 //! The closing of generators: all products of finite lists of them.
 ghost use Rattle.std.specs.Prelude.{◌≡◌, ◌+◌, ◌<◌, ◌≤◌, ℕ, ◌↔◌, IfOk, length, List, Contains, ◌++◌, ◌∷◌, []};
+ghost use Rattle.std.specs.Int.{bit_at};
 ghost use Rattle.tensor_defs.specs.Operation.{Operation};
 ghost use Rattle.tensor_defs.specs.Lists.{IsListing};
 ghost use Rattle.tensor_defs.specs.OperationOrder.{comes_before};
@@ -87,6 +88,24 @@ fn list_places(
     Ok(())
 }
 
+/// The least place from which on a digit 1 stands in a number, or 64.
+fn next_digit(digits: u64, from: usize) -> usize
+    requires { from ≤ 64 }
+    ensures reaches { from ≤ result }
+    ensures within { result ≤ 64 }
+    ensures one { result < 64 → bit_at digits result ≡ 1 }
+    ensures least { (c : ℕ) → from ≤ c → c < result → bit_at digits c ≡ 0 }
+{
+    if from == 64 {
+        return 64;
+    }
+    let left = digits >> from;
+    if left == 0 {
+        return 64;
+    }
+    from + left.trailing_zeros() as usize
+}
+
 /// The marked operations, in their order.
 fn list_marked(alloc: Global, marks: &Marks) -> Result<Vec<Op>, AllocError>
     ensures listed { IfOk result (λ v. v.items ≡ marked_below 128 marks.now) }
@@ -94,10 +113,10 @@ fn list_marked(alloc: Global, marks: &Marks) -> Result<Vec<Op>, AllocError>
 {
     let mut elements = Vec::with_capacity(alloc, marks.count())?;
     let matrices = marks.matrices();
-    for matrix in 0..64 {
-        if (matrices >> matrix) & 1 == 1 {
-            list_places(marks, 2 * matrix, 2 * matrix + 2, &mut elements)?;
-        }
+    let mut matrix = next_digit(matrices, 0);
+    while matrix < 64 {
+        list_places(marks, 2 * matrix, 2 * matrix + 2, &mut elements)?;
+        matrix = next_digit(matrices, matrix + 1);
     }
     Ok(elements)
 }
