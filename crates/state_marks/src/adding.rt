@@ -21,8 +21,7 @@ use exact_frac::Frac;
 use op_matrix::Op;
 use reduced_form::{Form, Term};
 use root3_num::{Root3, TooLarge};
-use std::alloc::Global;
-use tensor_action::{Part, parts_of, sign_of};
+use tensor_action::{Part, Parts, sign_of};
 use tensor_rank::{Comp, Flags, Rank, Sign};
 
 /// Whether a fraction is 1.
@@ -106,11 +105,11 @@ fn add_part(sums: &mut [Root3], part: &Part, sign: Sign, row: &[Term]) -> Result
 
 /// Adds the parts of a component in a state: for each component from which it takes the coefficient times its terms.
 pub fn add_parts<R: Rank>(
-    alloc: Global,
     op: &Op,
     flags: Flags,
     form: &Form<R>,
     to: Comp<R>,
+    parts: &mut Parts<R>,
     sums: &mut [Root3],
 ) -> Result<(), DifferFault>
     requires formed { IsWellFormed R.R (form_table R.R form.now) }
@@ -119,7 +118,7 @@ pub fn add_parts<R: Rank>(
     ensures grows { IfErr result (λ e. e ≡ DifferFault.TooLarge → StateRowGrows (marks_of flags) op.now (form_table R.R form.now) R.R (index_of R.R to)) }
 {
     let sign = sign_of(op, flags);
-    let parts = parts_of(alloc, op, to)?;
+    parts.set(op, to);
     let parts = parts.as_slice();
     for place in 0..parts.len() {
         let part = parts[place];

@@ -16,6 +16,7 @@ use reduced_form::Form;
 use root3_num::Root3;
 use std::alloc::Global;
 use std::marker::{Model, PhantomData};
+use tensor_action::Parts;
 use tensor_rank::{Comp, Flags, Rank};
 
 /// The rows of all components in one state, and for each whether it differs from its row in the table.
@@ -67,6 +68,7 @@ fn row_of<R: Rank>(
     op: &Op,
     flags: Flags,
     number: usize,
+    parts: &mut Parts<R>,
     sums: &mut [Root3],
 ) -> Result<Row, DifferFault>
     requires number { number < R.LEN }
@@ -78,7 +80,7 @@ fn row_of<R: Rank>(
     ensures grows { IfErr result (λ e. e ≡ DifferFault.TooLarge → StateRowGrows (marks_of flags) op.now (form_table R.R form.now) R.R (index_of R.R number)) }
 {
     let to = Comp::at(number);
-    add_parts(alloc, op, flags, form, to, sums)?;
+    add_parts(op, flags, form, to, parts, sums)?;
     let terms = terms_of(alloc, sums)?;
     let marked = differs(sums, terms.as_slice(), form.row(to));
     clear(sums, terms.as_slice());
@@ -102,10 +104,11 @@ pub fn state_rows<R: Rank>(
     let _place = op.place();
     let mut held = zeros(alloc, form.free_count())?;
     let sums: &mut [Root3] = &mut held;
+    let mut parts = Parts::<R>::new(alloc)?;
     let mut rows = Vec::with_capacity(alloc, R::LEN)?;
     let mut marks = Vec::with_capacity(alloc, R::LEN)?;
     for number in 0..R::LEN {
-        let row = row_of(alloc, form, op, flags, number, sums)?;
+        let row = row_of(alloc, form, op, flags, number, &mut parts, sums)?;
         rows.push(row.terms)?;
         marks.push(row.marked)?;
     }

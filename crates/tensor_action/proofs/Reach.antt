@@ -3,11 +3,11 @@
 --   part-moved, extended, left_out    the parts with an index more, where it is taken and where it isn't
 --   numbers-more    the numbers with one more part
 --   reach-none, reach-more    no index, and one index more in front
---   parts-small, parts-within    how large the numbers and the products are
+--   parts-few, parts-small, parts-within    how many parts there are, how large the numbers and the products are
 use Rattle.std.proofs.Common.{◌≡◌, ℕ, zero, suc, ◌+◌, ◌-◌, ◌*◌, ◌/◌, ◌%◌, ◌<◌, ◌≤◌, ◌^◌, inl, inr, List, [], ◌∷◌, ◌++◌, length, map, drop, take, get_or, append_assoc, refl, ap, sym, ◌∙◌, subst, arith}
 use Rattle.std.proofs.Math.Nat.{mul_comm, pow-suc}
 use Rattle.std.proofs.lemmas.Bool.{cases_lt}
-use Rattle.std.proofs.lemmas.List.{drop_more, drop_all, length-drop, append-nil, map-append, take_more}
+use Rattle.std.proofs.lemmas.List.{drop_more, drop_all, length-drop, length-map, append-nil, map-append, take_more}
 use Rattle.std.proofs.lemmas.Nat.{div-mul-add, mod-mul-add}
 use Rattle.tensor_defs.specs.Lists.{Each}
 use Rattle.tensor_defs.specs.Number.{mul, num_one, num_zero}
@@ -67,6 +67,13 @@ covers-move Z W d a b (n ∷ ns) f h =
 covers-small : (Z : ℕ → Type 0) (a b : ℕ) (ns : List ℕ) → Covers Z a ns b → Each (λ n. n < b) ns
 covers-small Z a b [] h = tt
 covers-small Z a b (n ∷ ns) h = (h.1, covers-small Z (n + 1) b ns h.3)
+
+covers-few : (Z : ℕ → Type 0) (a b : ℕ) (ns : List ℕ) → Covers Z a ns b → length ns + a ≤ b
+covers-few Z a b [] h = let l = h.0 in omega (arith, l)
+covers-few Z a b (n ∷ ns) h =
+    let l = h.0 in
+    let few = covers-few Z (n + 1) b ns h.3 in
+    omega (arith, l, few)
 
 -- ---- one index more in front
 axis_same : (k : ℕ) → axis k ≡ axis_at k
@@ -216,7 +223,13 @@ module _ (g : Operation) (is : Index) (r : ℕ) (l : length is ≡ r) where
       let all : r - done ≡ 0 = omega (arith, h) in
       subst (λ k. AreParts g (drop k is) ps) all parts
 
--- ---- how large the numbers and the products are
+-- ---- how many parts there are, how large the numbers and the products are
+pub parts-few : (g : Operation) (is : Index) (ps : List Part) → AreParts g is ps → length ps ≤ 3 ^ length is
+parts-few g is ps parts =
+    let few = covers-few (IsNone g is) 0 (3 ^ length is) (numbers ps) parts.covers in
+    let same : length (numbers ps) ≡ length ps = length-map ps (λ (p : Part). p.number) in
+    omega (arith, few, same)
+
 numbered : (n : ℕ) (ps : List Part) → Each (λ k. k < n) (numbers ps) → Each (λ p. p.number < n) ps
 numbered n [] e = tt
 numbered n (p ∷ ps) e = (e.0, numbered n ps e.1)

@@ -6,7 +6,7 @@ ghost use Rattle.tensor_rank.specs.Flags.{marks_of};
 ghost use Rattle.tensor_action.specs.Acting.{ActGrows, AddsPart, CarriesTo, IsCarriedList, SumGrows, factor, tensor_of};
 
 use crate::faults::ActFault;
-use crate::parts::parts_of;
+use crate::parts::Parts;
 use crate::products::zero;
 use crate::signs::sign_of;
 use op_matrix::Op;
@@ -24,18 +24,18 @@ fn with_product(sum: &Root3, factor: &Root3, number: &Root3) -> Result<Root3, To
 
 /// One component of the carried tensor.
 fn component_of<R: Rank>(
-    alloc: Global,
     op: &Op,
     flags: Flags,
     t: &[Root3],
     to: Comp<R>,
+    parts: &mut Parts<R>,
 ) -> Result<Root3, ActFault>
     requires { length t.now ≡ R.LEN }
     ensures ok { IfOk result (λ v. CarriesTo (marks_of flags) op.now R.R (tensor_of t.now) (index_of R.R to) (Ok v)) }
     ensures grows { IfErr result (λ e. e ≡ ActFault.TooLarge → SumGrows R.R (factor (marks_of flags) op.now (index_of R.R to)) (tensor_of t.now)) }
 {
     let sign = sign_of(op, flags);
-    let parts = parts_of(alloc, op, to)?;
+    parts.set(op, to);
     let parts = parts.as_slice();
     let mut sum = zero();
     for place in 0..parts.len() {
@@ -60,9 +60,10 @@ pub fn act<R: Rank>(
     ensures ok { IfOk result (λ v. IsCarriedList (marks_of flags) op.now R.R R.LEN t.now v.items) }
     ensures grows { IfErr result (λ e. e ≡ ActFault.TooLarge → ActGrows (marks_of flags) op.now R.R (tensor_of t.now)) }
 {
+    let mut parts = Parts::<R>::new(alloc)?;
     let mut carried = Vec::with_capacity(alloc, R::LEN)?;
     for number in 0..R::LEN {
-        let component = component_of::<R>(alloc, op, flags, t, Comp::at(number))?;
+        let component = component_of(op, flags, t, Comp::at(number), &mut parts)?;
         carried.push(component)?;
     }
     Ok(carried)

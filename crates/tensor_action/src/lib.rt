@@ -15,6 +15,6 @@ mod turns;
 pub use action::act;
 pub use coefficients::coefficient;
 pub use faults::ActFault;
-pub use parts::{Part, parts_of};
+pub use parts::{Part, Parts};
 pub use signs::sign_of;
 pub use turns::products_act_in_turn;

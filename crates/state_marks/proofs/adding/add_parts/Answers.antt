@@ -19,7 +19,7 @@ loop-place-init g c =
     let i = index_of r c.args.to in
     parts-start (marks_of c.args.flags) c.args.op.now r (form_table r c.args.form.now) i
     (length-index_of r c.args.to) c.as_slice-parts.result.now c.args.sums.now
-    (subst (AreParts c.args.op.now i) (sym c.as_slice-parts.ensures.value) c.in_ok-parts.ensures.parts)
+    (subst (AreParts c.args.op.now i) (sym c.as_slice-parts.ensures) c.set.ensures)
     (subst (λ n. IsZeros n c.args.sums.now) (sym (free_length r c.args.form.now)) c.requires.zeros)
 
 pub add_part-requires-clause-within : goal.add_part-requires-clause-within
@@ -62,7 +62,7 @@ returns-in_err-add_part-clause-grows g c =
     let h : k < length ps = omega (arith, c.loop-place-test.true) in
     let small = number_small m op r a i long ps k h c.loop-place.sums c.loop-place.invariant in
     let below : c.at.result < 3 ^ r = subst (λ n. n < 3 ^ r) (sym c.at.ensures) small in
-    grown_told c.from_residual-in_err-add_part.result _
+    grown_told c.from_residual.result _
     (parts-grow m op r a i long ps k h c.loop-place.sums c.loop-place.invariant c.row-row.result.now
     (λ q. ap (λ (ts : List Term). factor_in ts q) c.row-row.ensures ∙ row_factor r f c.at.result q below
     ∙ ap (λ n. column a q (index_of r n)) c.at.ensures) c.sign_of-sign.result c.sign_of-sign.ensures c.in_err-add_part.ensures.grows)

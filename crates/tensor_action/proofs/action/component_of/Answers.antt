@@ -16,7 +16,7 @@ loop-place-init g c =
     let r = g.R.Rank.R in
     let i = index_of r c.args.to in
     let parts : AreParts c.args.op.now i c.as_slice-parts.result.now =
-    subst (AreParts c.args.op.now i) (sym c.as_slice-parts.ensures.value) c.in_ok-parts.ensures.parts in
+    subst (AreParts c.args.op.now i) (sym c.as_slice-parts.ensures) c.set.ensures in
     walk-start (marks_of c.args.flags) c.args.op.now r i (length-index_of r c.args.to) 1 (λ _. tensor_of c.args.t.now)
     c.as_slice-parts.result.now (λ _. c.zero-sum.result) parts (λ k h. c.zero-sum.ensures)
 
@@ -59,7 +59,7 @@ returns-in_err-sum-clause-grows g c =
     let inside : p.number < length t = subst (λ b. p.number < b) (sym (c.requires ∙ g.R.Rank.power)) below in
     let read : value_of_root c.index-t-part.result ≡ tensor_of t (index_of r p.number) =
     read_at t r p.number c.index-t-part.result below inside c.index-t-part.is in
-    grows_always c.from_residual-in_err-sum.result _
+    grows_always c.from_residual.result _
     (walk-grows m c.args.op.now r i long 1 (λ _. tensor_of t) ps k h (λ _. c.loop-place.sum) w (value_of_root c.factor-factor.result)
     (part-factor m c.args.op.now r i long 1 (λ _. tensor_of t) c.sign_of-sign.result p (value_of_root c.factor-factor.result)
     c.sign_of-sign.ensures (part_here m c.args.op.now r i long 1 (λ _. tensor_of t) ps k h (λ _. c.loop-place.sum) w) c.factor-factor.ensures)

@@ -1,4 +1,4 @@
-use Rattle.std.proofs.Common.{◌≡◌, ℕ, ◌++◌, ◌+◌, ◌*◌, ◌<◌, ◌^◌, ◌∷◌, map, take, length}
+use Rattle.std.proofs.Common.{◌≤◌, vec_capacity, vec_len, ◌≡◌, ℕ, ◌++◌, ◌+◌, ◌*◌, ◌<◌, ◌^◌, ◌∷◌, map, take, length}
 use Rattle.tensor_defs.specs.Lists.{Each}
 use Rattle.tensor_defs.specs.Tensor.{Index}
 use Rattle.op_matrix.specs.View.{axis}
@@ -11,4 +11,6 @@ invariant-loop-place l = record {
   parts_are : (is : Index) (w : ℕ) → w ≡ 3 ^ length is → l.offset ≡ w * l.col → Each (λ p. p.number < w) l.parts →
       Each (IsPart l.op is) l.parts → Each (IsPart l.op (axis l.row ∷ is)) l.fn.out.items →
       Each (IsPart l.op (axis l.row ∷ is)) l.out.items;
+  len : vec_len l.out ≤ vec_len l.fn.out + l.place;
+  capacity : vec_capacity l.out ≡ vec_capacity l.fn.out;
 }
