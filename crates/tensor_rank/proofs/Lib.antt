@@ -1,4 +1,5 @@
 pub mod OrderLaws
+mod SpelledTables
 pub mod ExchangeLaws
 pub mod ExchangeRowLaws
 pub mod ExchangeIndex

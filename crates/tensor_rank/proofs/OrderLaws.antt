@@ -1,7 +1,7 @@
 -- Orders by the index digits and by blocks.
 --   numbers_tell, index_order_at    index order is the order of component numbers
 --   blocks_next, blocks_before    blocks from a place on
---   spell_next, spell_below, below_sixth, spelled_order    block order is the order of what block numbers spell
+--   spell_next, spell_below, below_sixth, spelled_apart, spelled_same, spelled_order    block order is the order of what block numbers spell
 --   front_one, front_two, pair_same, pair_other, by_index    the number of one block
 use Rattle.std.proofs.Common.{◌≡◌, ◌≢◌, ℕ, zero, suc, ◌+◌, ◌-◌, ◌*◌, ◌^◌, ◌<◌, ◌≤◌, Bool, true, false, lit<, List, [], ◌∷◌, ◌++◌, length, get_or, drop, drop-cons, add-one, map, refl, ap, sym, ◌∙◌, arith, subst, inl, inr}
 use Rattle.std.specs.Prelude.{nat_lt}
@@ -203,8 +203,14 @@ spelled_less x y rest h = grind (arith, nat_tests)
 spelled_more : (x y : ℕ) (rest : Bool) → y < x → spelled_before x y rest ≡ false
 spelled_more x y rest h = grind (arith, nat_tests)
 
-spelled_same : (x y : ℕ) (rest : Bool) → x ≡ y → spelled_before x y rest ≡ rest
+pub spelled_same : (x y : ℕ) (rest : Bool) → x ≡ y → spelled_before x y rest ≡ rest
 spelled_same x y rest h = grind (arith, nat_tests)
+
+pub spelled_apart : (x y : ℕ) (rest : Bool) → x ≢ y → spelled_before x y rest ≡ nat_lt x y
+spelled_apart x y rest h = elim (cases_lt x y) as (λ _. spelled_before x y rest ≡ nat_lt x y) [
+  | inl l ↦ spelled_less x y rest l ∙ sym (lt-ltb x y l)
+  | inr l ↦ let m : y < x = omega (arith, l, h) in spelled_more x y rest m ∙ sym (le-ltb x y l)
+]
 
 spell_tells : (ps qs : List ℕ) (x : ℕ) (a b : List ℕ) → length ps ≡ length qs → Each (λ n. n ≤ 6) ps → Each (λ n. n ≤ 6) qs →
     lexicographic (ps ++ a) (qs ++ b) ≡ spelled_before (spell x ps) (spell x qs) (lexicographic a b)

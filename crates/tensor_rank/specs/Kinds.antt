@@ -1,7 +1,7 @@
 -- What contracts see of an order.
 --   ordering_of     the order of the definitions that the code's stands for
 --   IsKind          its blocks are together as many indices as the rank has, and their numbers are spelled
-use Rattle.std.specs.Prelude.{ℕ, ◌≤◌, ◌^◌, take}
+use Rattle.std.specs.Prelude.{ℕ, ◌≤◌, take}
 use Rattle.tensor_rank.specs.declared.orders.Kind.{Kind}
 use Rattle.tensor_rank.specs.declared.orders.Kind.TheVariants as kind
 use Rattle.tensor_rank.specs.Orders.{Ordering, ByIndex, ByBlocks, AreBlocks, AreSpelled}
@@ -12,4 +12,4 @@ ordering_of (kind.Blocks sizes count spelled) = ByBlocks (take count sizes)
 
 abbrev pub IsKind : ℕ → Kind → Type 0
 IsKind r kind.Index = Unit {0}
-IsKind r (kind.Blocks sizes count spelled) = (count ≤ 6) × AreBlocks r (take count sizes) × AreSpelled r (take count sizes) (3 ^ r) spelled
+IsKind r (kind.Blocks sizes count spelled) = (count ≤ 6) × AreBlocks r (take count sizes) × AreSpelled r (take count sizes) spelled.now

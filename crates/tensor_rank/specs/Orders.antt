@@ -8,7 +8,7 @@
 --   front_number    the number of the first block of an index list
 --   pair_of         a pair number from two digits
 --   spell           the number that digits spell in base 7 behind a number
---   AreSpelled      for each component below an end what the numbers of its blocks spell
+--   AreSpelled      for the first components what the numbers of their blocks spell
 --   spelled_before  what is spelled decides, and where it agrees something else
 use Rattle.std.specs.Prelude.{◌≡◌, ℕ, zero, suc, ◌+◌, ◌-◌, ◌*◌, ◌<◌, ◌≤◌, nat_eq, nat_lt, Bool, true, false, List, [], ◌∷◌, cond, get_or, length}
 use Rattle.tensor_defs.specs.Lists.{Each}
@@ -55,9 +55,8 @@ abbrev pub spell : ℕ → List ℕ → ℕ
 spell x [] = x
 spell x (p ∷ ps) = spell (7 * x + p) ps
 
-pub record AreSpelled (r : ℕ) (bs : List ℕ) (end : ℕ) (xs : List ℕ) : Type 0 where
-  pub len : length xs ≡ 729
-  pub each : (c : ℕ) → c < end → get_or xs c 0 ≡ spell 0 (block_numbers bs (index_of r c))
+abbrev pub AreSpelled : ℕ → List ℕ → List ℕ → Type 0
+AreSpelled r bs xs = (c : ℕ) → c < length xs → get_or xs c 0 ≡ spell 0 (block_numbers bs (index_of r c))
 
 abbrev pub spelled_before : ℕ → ℕ → Bool → Bool
 spelled_before x y rest = cond (nat_lt x y) true (cond (nat_lt y x) false rest)

@@ -1,8 +1,8 @@
 //! Index order and the orders by blocks.
-ghost use Rattle.std.specs.Prelude.{◌≡◌, ℕ, ◌+◌, ◌<◌, ◌≤◌, ◌↔◌, IsNone, IfSome, drop, get_or, length};
-ghost use Rattle.tensor_defs.specs.Orders.{block_numbers, index_before};
+ghost use Rattle.std.specs.Prelude.{◌≡◌, ℕ, ◌+◌, ◌<◌, ◌≤◌, ◌↔◌, IsNone, IfSome, [], ◌∷◌, drop};
+ghost use Rattle.tensor_defs.specs.Orders.{block_before, block_numbers, index_before};
 ghost use Rattle.tensor_defs.specs.Tensor.{index_of};
-ghost use Rattle.tensor_rank.specs.Orders.{AreBlocks, AreSpelled, ByBlocks, ByIndex, IsBlock, before_of, front_number, is_by_index, spell, spelled_before};
+ghost use Rattle.tensor_rank.specs.Orders.{AreBlocks, AreSpelled, ByBlocks, ByIndex, IsBlock, before_of, front_number, is_by_index, spell};
 
 use crate::components::Comp;
 use crate::ranks::Rank;
@@ -14,14 +14,52 @@ use std::marker::{Model, PhantomData};
 enum Kind {
     /// The index digits, the first index first.
     Index,
-    /// The numbers of blocks of one or two indices, and where all agree the index digits. For each component the
-    /// number that those of its blocks spell in base 7.
+    /// The numbers of blocks of one or two indices, and where all agree the index digits. For the components below some
+    /// number what those of their blocks spell in base 7.
     Blocks {
         sizes: [u8; 6],
         count: usize,
-        spelled: [u32; 729],
+        spelled: &'static [u8],
     },
 }
+
+/// What the number of a pair spells for each component of rank 2.
+#[rattlefmt::skip]
+const PAIR: [u8; 9] = [
+    1, 6, 5,
+    6, 2, 4,
+    5, 4, 3,
+];
+
+/// What the numbers of a single index and a pair spell for each component of rank 3.
+#[rattlefmt::skip]
+const VECTOR_PAIR: [u8; 27] = [
+    8, 13, 12,  13, 9, 11,  12, 11, 10,
+    15, 20, 19,  20, 16, 18,  19, 18, 17,
+    22, 27, 26,  27, 23, 25,  26, 25, 24,
+];
+
+/// What the numbers of a pair and a single index spell for each component of rank 3.
+#[rattlefmt::skip]
+const PAIR_VECTOR: [u8; 27] = [
+    8, 9, 10,  43, 44, 45,  36, 37, 38,
+    43, 44, 45,  15, 16, 17,  29, 30, 31,
+    36, 37, 38,  29, 30, 31,  22, 23, 24,
+];
+
+/// What the numbers of two pairs spell for each component of rank 4.
+#[rattlefmt::skip]
+const TWO_PAIRS: [u8; 81] = [
+    8, 13, 12,  13, 9, 11,  12, 11, 10,
+    43, 48, 47,  48, 44, 46,  47, 46, 45,
+    36, 41, 40,  41, 37, 39,  40, 39, 38,
+    43, 48, 47,  48, 44, 46,  47, 46, 45,
+    15, 20, 19,  20, 16, 18,  19, 18, 17,
+    29, 34, 33,  34, 30, 32,  33, 32, 31,
+    36, 41, 40,  41, 37, 39,  40, 39, 38,
+    29, 34, 33,  34, 30, 32,  33, 32, 31,
+    22, 27, 26,  27, 23, 25,  26, 25, 24,
+];
 
 /// An order of the components of rank R.
 #[derive(Drop)]
@@ -82,27 +120,56 @@ fn spelled_by<R: Rank>(sizes: &[u8], c: Comp<R>) -> u32
     spelled
 }
 
-/// The same for each component.
-fn spelled_numbers<R: Rank>(sizes: &[u8]) -> [u32; 729]
-    requires { AreBlocks R.R sizes.now }
-    ensures { AreSpelled R.R sizes.now R.LEN result }
+/// For two blocks what those of each component spell, if it is known.
+fn spelled_by_two(first: u8, last: u8) -> &'static [u8]
+    ensures { (r : ℕ) → AreBlocks r (first ∷ last ∷ []) → AreSpelled r (first ∷ last ∷ []) result.now }
 {
-    let mut spelled = [0; 729];
-    for number in 0..R::LEN {
-        spelled[number] = spelled_by(sizes, Comp::<R>::at(number));
+    if first == 1 && last == 2 {
+        return &VECTOR_PAIR;
     }
-    spelled
+    if first == 2 && last == 1 {
+        return &PAIR_VECTOR;
+    }
+    if first == 2 && last == 2 {
+        return &TWO_PAIRS;
+    }
+    &[]
+}
+
+/// For blocks what those of each component spell, if it is known, as for the blocks of a Voigt table.
+fn spelled_numbers(sizes: &[u8]) -> &'static [u8]
+    ensures { (r : ℕ) → AreBlocks r sizes.now → AreSpelled r sizes.now result.now }
+{
+    if sizes.len() == 1 && sizes[0] == 2 {
+        return &PAIR;
+    }
+    if sizes.len() == 2 {
+        return spelled_by_two(sizes[0], sizes[1]);
+    }
+    &[]
+}
+
+/// What the blocks of a component spell: looked up where it is known.
+fn spelled_at<R: Rank>(sizes: &[u8], spelled: &[u8], c: Comp<R>) -> u32
+    requires blocks { AreBlocks R.R sizes.now }
+    requires spelled { AreSpelled R.R sizes.now spelled.now }
+    ensures { result ≡ spell 0 (block_numbers sizes.now (index_of R.R c)) }
+{
+    let number = c.number() as usize;
+    if number < spelled.len() {
+        return u32::from(spelled[number]);
+    }
+    spelled_by(sizes, c)
 }
 
 /// Whether a component comes before another in the order of blocks, by what their numbers spell.
-fn spelled_precede<R: Rank>(spelled: &[u32], a: Comp<R>, b: Comp<R>) -> bool
-    requires { length spelled.now ≡ 729 }
-    ensures first { a < R.LEN }
-    ensures second { b < R.LEN }
-    ensures value { result ≡ spelled_before (get_or spelled.now a 0) (get_or spelled.now b 0) (index_before (index_of R.R a) (index_of R.R b)) }
+fn spelled_precede<R: Rank>(sizes: &[u8], spelled: &[u8], a: Comp<R>, b: Comp<R>) -> bool
+    requires blocks { AreBlocks R.R sizes.now }
+    requires spelled { AreSpelled R.R sizes.now spelled.now }
+    ensures { result ≡ block_before sizes.now (index_of R.R a) (index_of R.R b) }
 {
-    let one = spelled[a.number() as usize];
-    let other = spelled[b.number() as usize];
+    let one = spelled_at(sizes, spelled, a);
+    let other = spelled_at(sizes, spelled, b);
     if one != other {
         return one < other;
     }
@@ -144,7 +211,7 @@ impl<R: Rank> Order<R> {
             kind: Kind::Blocks {
                 sizes,
                 count,
-                spelled: spelled_numbers::<R>(blocks),
+                spelled: spelled_numbers(blocks),
             },
             of: PhantomData,
         })
@@ -163,7 +230,11 @@ impl<R: Rank> Order<R> {
     {
         match &self.kind {
             Kind::Index => index_precedes(a, b),
-            Kind::Blocks { spelled, .. } => spelled_precede(spelled, a, b),
+            Kind::Blocks {
+                sizes,
+                count,
+                spelled,
+            } => spelled_precede(&sizes[..*count], spelled, a, b),
         }
     }
 }

@@ -5,6 +5,7 @@
 --   sum_grown, sum_done    a sum, term by term
 --   unit_text       a term with the factor 1 or -1
 --   free_line, sum_line, zero_line    the line of an entry
+--   free_line_whole, zero_line_whole  the same where it is appended at once
 use Rattle.std.proofs.Common.{◌≡◌, ℕ, zero, suc, ◌+◌, ◌<◌, ◌≤◌, Bool, true, false, List, [], ◌∷◌, ◌++◌, map, length, get_or, inl, inr, refl, ap, sym, ◌∙◌, subst, arith}
 use Rattle.std.specs.List.{flat_map}
 use Rattle.std.specs.Prelude.{if◌then◌else◌, codes, take}
@@ -216,3 +217,21 @@ zero_line b v n old one new sizes below whole free none is a =
     sym (append_assoc two (48 ∷ []) (10 ∷ []) ∙ append_assoc one (32 ∷ 61 ∷ 32 ∷ []) (48 ∷ 10 ∷ [])) in
     sum_line b v n old one two (two ++ 48 ∷ []) new (entry_name v.weights (entry_at v.sizes n)) sizes below whole free refl is refl
     (ap (λ (ts : List Term). two ++ sum_text (named_entries v ts)) (sym none)) (a ∙ pieces)
+
+-- the line at once
+pub free_line_whole : (v : VoigtValue) (e : VoigtEntry) (old new line : List ℕ) → has_entry (voigt_of v).free e ≡ true →
+    line ≡ entry_name v.weights e ++ (32 ∷ (codes "free" ++ 10 ∷ [])) → new ≡ old ++ line →
+    new ≡ old ++ entry_line v.weights (voigt_of v) e
+free_line_whole v e old new line free is a =
+    let name : List ℕ = entry_name v.weights e in
+    free_line v e old (old ++ name) new name free refl refl
+    (a ∙ ap (λ x. old ++ x) is ∙ sym (append_assoc old name (32 ∷ (codes "free" ++ 10 ∷ []))))
+
+pub zero_line_whole : (b : Blocks) (v : VoigtValue) (n : ℕ) (old new line : List ℕ) → v.sizes ≡ sizes_of b → n < entry_count v.sizes →
+    IsVoigtValue v → has_entry (voigt_of v).free (entry_at v.sizes n) ≡ false → row_at v.rows n ≡ [] →
+    line ≡ entry_name v.weights (entry_at v.sizes n) ++ (32 ∷ 61 ∷ 32 ∷ 48 ∷ 10 ∷ []) → new ≡ old ++ line →
+    new ≡ old ++ entry_line v.weights (voigt_of v) (entry_at v.sizes n)
+zero_line_whole b v n old new line sizes below whole free none is a =
+    let name : List ℕ = entry_name v.weights (entry_at v.sizes n) in
+    zero_line b v n old (old ++ name) new sizes below whole free none refl
+    (a ∙ ap (λ x. old ++ x) is ∙ sym (append_assoc old name (32 ∷ 61 ∷ 32 ∷ 48 ∷ 10 ∷ [])))

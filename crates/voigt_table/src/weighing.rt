@@ -10,11 +10,10 @@ ghost use Rattle.exact_frac.specs.Held.{IsHeldAs};
 ghost use Rattle.reduced_form.specs.Forms.{IsForm, free_at, row_at};
 ghost use Rattle.reduced_form.specs.declared.forms.Term.{Term};
 ghost use Rattle.reduced_form.specs.declared.memory.SolveFault.{SolveFault};
-ghost use Rattle.voigt_table.specs.Blocks.{entry_at, entry_count, numbers_of, sizes_of};
+ghost use Rattle.voigt_table.specs.Blocks.{entry_at, entry_count, sizes_of};
 ghost use Rattle.voigt_table.specs.Weighing.{AreWeightedTerms, TellsWeighed, WeighsTooMuch, entry_of_place, entry_terms};
 
 use crate::entries::Blocks;
-use crate::entry::Entry;
 use crate::tables::VoigtTable;
 use exact_frac::{Frac, TooLarge};
 use reduced_form::{Form, NoMemory, SolveFault, Term};
@@ -75,22 +74,26 @@ fn push_weighted(
     }
 }
 
-/// The row of an entry from that of its component, with free entries by their numbers.
+/// The row of the entry of a number from that of its component, with free entries by their numbers.
 fn weighted_row(
     alloc: Global,
     row: &[Term],
-    entry: &Entry,
+    number: usize,
     free: &[u8],
     blocks: Blocks,
     weights: Weights,
 ) -> Result<SmallVec<Term, 2>, SolveFault>
+    requires number { number < entry_count (sizes_of blocks) }
     requires named { Each (λ t. t.free < length free.now) row.now }
     requires entries { (k : ℕ) → k < length free.now → slice_index free.now k < entry_count (sizes_of blocks) }
-    ensures ok { IfOk result (λ new. AreWeightedTerms weights (entry_of_place (sizes_of blocks) free.now) (numbers_of entry.now) row.now new.items) }
-    ensures grows { IfErr result (λ e. e ≡ SolveFault.TooLarge → WeighsTooMuch weights (entry_of_place (sizes_of blocks) free.now) (numbers_of entry.now) row.now) }
+    ensures ok { IfOk result (λ new. AreWeightedTerms weights (entry_of_place (sizes_of blocks) free.now) (entry_at (sizes_of blocks) number) row.now new.items) }
+    ensures grows { IfErr result (λ e. e ≡ SolveFault.TooLarge → WeighsTooMuch weights (entry_of_place (sizes_of blocks) free.now) (entry_at (sizes_of blocks) number) row.now) }
 {
-    let shift = entry.shift(weights);
     let mut new = SmallVec::new(alloc);
+    if row.is_empty() {
+        return Ok(new);
+    }
+    let shift = blocks.entry(number).shift(weights);
     for place in 0..row.len() {
         let term = &row[place];
         let other = blocks
@@ -137,7 +140,7 @@ fn weighted_rows<R: Rank>(
     };
     for number in 0..blocks.entry_count() {
         let terms = form.row(Comp::at(blocks.component(number)));
-        let row = weighted_row(alloc, terms, &blocks.entry(number), free, blocks, weights)?;
+        let row = weighted_row(alloc, terms, number, free, blocks, weights)?;
         rows.push_reserved(row);
     }
     Ok(rows)

@@ -1,5 +1,5 @@
 //! The lines of a Voigt table.
-ghost use Rattle.std.specs.Prelude.{◌≡◌, ◌∷◌, [], ◌++◌, ◌<◌, ◌≤◌, OnErr, OnOk, length, take, vec_capacity};
+ghost use Rattle.std.specs.Prelude.{◌≡◌, ◌∷◌, [], ◌++◌, ◌<◌, ◌≤◌, OnErr, OnOk, codes, length, take, vec_capacity};
 ghost use Rattle.std.specs.List.{flat_map};
 ghost use Rattle.tensor_defs.specs.Lists.{Each};
 ghost use Rattle.tensor_defs.specs.Voigt.{entries};
@@ -39,6 +39,45 @@ fn name_bytes(weights: Weights, entry: &Entry) -> ([u8; 3], usize)
     match entry.first {
         Some(first) => ([letter, 48 + first, last], 3),
         None => ([letter, last, 0], 2),
+    }
+}
+
+/// The line of a free entry, and how many of the bytes are the line.
+fn free_bytes(weights: Weights, entry: &Entry) -> ([u8; 9], usize)
+    ensures line { take result.1 result.0 ≡ entry_name weights (numbers_of entry.now) ++ 32 ∷ (codes "free" ++ 10 ∷ []) }
+    ensures short { result.1 ≤ 9 }
+{
+    let letter = letter(weights);
+    let last = 48 + entry.last;
+    match entry.first {
+        Some(first) => (
+            [
+                letter,
+                48 + first,
+                last,
+                b' ',
+                b'f',
+                b'r',
+                b'e',
+                b'e',
+                b'\n',
+            ],
+            9,
+        ),
+        None => ([letter, last, b' ', b'f', b'r', b'e', b'e', b'\n', 0], 8),
+    }
+}
+
+/// The line of an entry that is 0, and how many of the bytes are the line.
+fn zero_bytes(weights: Weights, entry: &Entry) -> ([u8; 8], usize)
+    ensures line { take result.1 result.0 ≡ entry_name weights (numbers_of entry.now) ++ 32 ∷ 61 ∷ 32 ∷ 48 ∷ 10 ∷ [] }
+    ensures short { result.1 ≤ 8 }
+{
+    let letter = letter(weights);
+    let last = 48 + entry.last;
+    match entry.first {
+        Some(first) => ([letter, 48 + first, last, b' ', b'=', b' ', b'0', b'\n'], 8),
+        None => ([letter, last, b' ', b'=', b' ', b'0', b'\n', 0], 7),
     }
 }
 
@@ -137,16 +176,20 @@ fn write_line(
     ensures longer { IsLonger out.old.items out.new.items }
     ensures capacity { vec_capacity out.old ≤ vec_capacity out.new }
 {
-    write_name(table.weights, &table.entry(number), out)?;
+    let weights = table.weights;
+    let entry = table.entry(number);
     if marks[number] {
-        append_to(out, b" free\n")?;
+        let (line, len) = free_bytes(weights, &entry);
+        append_to(out, &line[..len])?;
         return Ok(());
     }
     let row = table.row(number);
     if row.is_empty() {
-        append_to(out, b" = 0\n")?;
+        let (line, len) = zero_bytes(weights, &entry);
+        append_to(out, &line[..len])?;
         return Ok(());
     }
+    write_name(weights, &entry, out)?;
     append_to(out, b" = ")?;
     write_sum(table, row, out)?;
     append_to(out, b"\n")?;

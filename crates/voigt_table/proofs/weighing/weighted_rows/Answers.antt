@@ -35,8 +35,7 @@ returns-in_err-row-clause-grows g c =
     err_same c.from_residual.result c.in_err-row.field-0.0 _ c.from_residual.ensures.1 (λ p. (
       k,
       omega arith,
-      subst (λ (ts : List Term). WeighsTooMuch w frees (entry_at bs k) ts) row
-          (subst (λ (e : VoigtEntry). WeighsTooMuch w frees e c.row-terms.result.now) c.entry.ensures (c.in_err-row.ensures.grows p)),
+      subst (λ (ts : List Term). WeighsTooMuch w frees (entry_at bs k) ts) row (c.in_err-row.ensures.grows p),
     ))
 
 pub loop-number-preserved : goal.loop-number-preserved
@@ -49,8 +48,7 @@ loop-number-preserved g c =
     let row : c.row-terms.result.now ≡ entry_terms bs f k =
     c.row-terms.ensures ∙ ap (row_at f.rows) (c.at.ensures ∙ c.component.ensures.value) in
     let here : AreWeightedTerms w frees (entry_at bs k) (entry_terms bs f k) c.in_ok-row.row.items =
-    subst (λ (ts : List Term). AreWeightedTerms w frees (entry_at bs k) ts c.in_ok-row.row.items) row
-    (subst (λ (e : VoigtEntry). AreWeightedTerms w frees e c.row-terms.result.now c.in_ok-row.row.items) c.entry.ensures c.in_ok-row.ensures.ok) in
+    subst (λ (ts : List Term). AreWeightedTerms w frees (entry_at bs k) ts c.in_ok-row.row.items) row c.in_ok-row.ensures.ok in
     record {
       len = omega (arith, c.push_reserved.ensures.len, c.loop-number.invariant.len);
       rows = rows_pushed (λ row. row.items) (λ i us. AreWeightedTerms w frees (entry_at bs i) (entry_terms bs f i) us)

@@ -1,4 +1,5 @@
-use Rattle.std.proofs.Common.{◌≡◌, ◌++◌, ℕ, List, false, ap, refl, sym, ◌∙◌, subst}
+use Rattle.std.proofs.Common.{◌≡◌, ◌++◌, ◌<◌, ℕ, List, length, false, ap, refl, sym, ◌∙◌, subst}
+use Rattle.tensor_defs.specs.Lists.{Each}
 use Rattle.text_defs.specs.AnswerTexts.{entry_name, has_entry}
 use Rattle.text_defs.specs.NumberTexts.{sum_text}
 use Rattle.reduced_form.specs.declared.forms.Term.{Term}
@@ -18,7 +19,7 @@ returns-clause-ok c =
     let weights : c.table.inside.weights ≡ v.weights = ap (λ x. x.weights) c.table.view_is in
     let whole : IsVoigtValue v = subst (λ (x : VoigtValue). IsVoigtValue x) c.table.view_is c.table.invariant in
     let name : c.write_name.new.out.items ≡ c.args.out.now.items ++ entry_name v.weights (entry_at v.sizes n) =
-    c.in_ok-write_name.ensures.ok ∙ (λ i. c.args.out.now.items ++ entry_name (weights i) (c.entry.ensures i)) in
+    c.in_ok-write_name.ensures.ok ∙ (λ i. c.args.out.now.items ++ entry_name (weights i) (c.entry-entry.ensures i)) in
     let free : has_entry (voigt_of v).free (entry_at v.sizes n) ≡ false =
     sym (c.requires.marks.is n c.requires.number) ∙ c.if-marks-number.false in
     let kept : c.write_sum.new.out.items ≡ c.append_to-2.new.out.items ++ sum_text (named_entries v (row_at v.rows n)) =
@@ -26,3 +27,9 @@ returns-clause-ok c =
     sum_line b v n c.args.out.now.items c.write_name.new.out.items c.append_to-2.new.out.items c.write_sum.new.out.items
     c.append_to-3.new.out.items (entry_name v.weights (entry_at v.sizes n)) sizes c.requires.number whole free refl name
     c.in_ok-append_to-3.ensures.ok kept c.in_ok-append_to-4.ensures.ok
+
+pub write_sum-requires : goal.write_sum-requires
+write_sum-requires c =
+    let v : VoigtValue = c.args.table.now in
+    let whole : IsVoigtValue v = subst (λ (x : VoigtValue). IsVoigtValue x) c.table.view_is c.table.invariant in
+    subst (λ (ts : List Term). Each (λ t. t.free < length v.free) ts) (sym c.row-row.ensures) (whole.named c.args.number c.requires.number)

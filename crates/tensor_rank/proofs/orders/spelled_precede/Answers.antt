@@ -1,0 +1,26 @@
+use Rattle.std.proofs.Common.{sym, ◌∙◌}
+use Rattle.tensor_defs.specs.Orders.{index_before}
+use Rattle.tensor_defs.specs.Tensor.{index_of}
+use Rattle.tensor_laws.proofs.ComponentNumbers.{length-index_of}
+use Rattle.tensor_rank.specs.Orders.{spelled_before}
+use Rattle.tensor_rank.proofs.OrderLaws.{spelled_apart, spelled_order, spelled_same}
+use Rattle.tensor_rank.proofs.orders.spelled_precede.Goals as goal
+
+pub returns-then-one-other : goal.returns-then-one-other
+returns-then-one-other g c =
+    let r = g.R.Rank.R in
+    let is = index_of r c.args.a in
+    let js = index_of r c.args.b in
+    sym (spelled_apart c.spelled_at-one.result c.spelled_at-other.result (index_before is js) c.if-one-other.true)
+    ∙ (λ i. spelled_before (c.spelled_at-one.ensures i) (c.spelled_at-other.ensures i) (index_before is js))
+    ∙ sym (spelled_order r c.args.sizes.now is js c.requires.blocks (length-index_of r c.args.a) (length-index_of r c.args.b))
+
+pub returns : goal.returns
+returns g c =
+    let r = g.R.Rank.R in
+    let is = index_of r c.args.a in
+    let js = index_of r c.args.b in
+    c.index_precedes.ensures
+    ∙ sym (spelled_same c.spelled_at-one.result c.spelled_at-other.result (index_before is js) c.if-one-other.false)
+    ∙ (λ i. spelled_before (c.spelled_at-one.ensures i) (c.spelled_at-other.ensures i) (index_before is js))
+    ∙ sym (spelled_order r c.args.sizes.now is js c.requires.blocks (length-index_of r c.args.a) (length-index_of r c.args.b))
