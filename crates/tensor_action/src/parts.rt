@@ -1,5 +1,5 @@
 //! The components from which a component of the carried tensor takes, with the products of the entries between.
-ghost use Rattle.std.specs.Prelude.{◌≡◌, ◌+◌, ◌*◌, ◌≤◌, ◌<◌, ◌^◌, ◌∷◌, false, length, vec_capacity, vec_len};
+ghost use Rattle.std.specs.Prelude.{◌≡◌, ◌+◌, ◌*◌, ◌≤◌, ◌<◌, ◌^◌, ◌∷◌, [], IfOk, false, length, vec_capacity, vec_len};
 ghost use Rattle.tensor_defs.specs.Lists.{Each};
 ghost use Rattle.tensor_defs.specs.Tensor.{Index, index_of};
 ghost use Rattle.op_matrix.specs.View.{axis};
@@ -127,7 +127,9 @@ impl<R: Rank> Model for Parts<R> {
 
 impl<R: Rank> Parts<R> {
     /// No parts yet.
-    pub fn new(alloc: Global) -> Result<Parts<R>, AllocError> {
+    pub fn new(alloc: Global) -> Result<Parts<R>, AllocError>
+        ensures { IfOk result (λ p. p ≡ []) }
+    {
         let held = Vec::with_capacity(alloc, R::LEN)?;
         let longer = Vec::with_capacity(alloc, R::LEN)?;
         Ok(Parts {
