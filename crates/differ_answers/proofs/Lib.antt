@@ -2,3 +2,4 @@ pub mod TextLaws
 pub mod Listing
 pub mod StateTexts
 pub mod FaultLaws
+pub mod StandingLaws

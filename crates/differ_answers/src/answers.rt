@@ -20,18 +20,18 @@ ghost use Rattle.differ_answers.specs.Told.{AreWritten, IsDifferOver};
 
 use crate::faults::DifferAnswerFault;
 use crate::headers::write_header;
-use crate::states::write_state;
+use crate::known::write_known;
 use coset_states::{States, list_states};
 use group_symbol::SymbolTree;
 use jahn_grammar::Jahn;
 use magnetic_groups::Group;
 use reduced_form::Form;
-use state_marks::{DifferFault, first_form, state_rows};
+use state_marks::{DifferFault, first_form};
 use std::alloc::Global;
 use tensor_rank::{Rank, Shape, at_rank, compile};
 
-/// Appends the texts of the states from the second on, with the rows of one state at a time. After an error, lines may
-/// stand behind what was there.
+/// Appends the texts of the states from the second on, with the rows of one state at a time. The equations of a state
+/// stand in the answer for those whose operations act alike. After an error, lines may stand behind what was there.
 fn write_states<R: Rank>(
     alloc: Global,
     states: &States,
@@ -47,10 +47,10 @@ fn write_states<R: Rank>(
     ensures capacity { vec_capacity out.old ≤ vec_capacity out.new }
 {
     let flags = shape.flags();
+    let mut known = Vec::new(alloc);
     for place in 1..states.count() {
         let op = states.representative(place + 1);
-        let rows = state_rows(alloc, form, &op, flags)?;
-        write_state(alloc, place + 1, form, &rows, out)?;
+        write_known(alloc, place + 1, form, &op, flags, &mut known, out)?;
     }
     Ok(())
 }

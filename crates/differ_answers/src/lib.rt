@@ -6,6 +6,7 @@ mod answers;
 mod equations;
 mod faults;
 mod headers;
+mod known;
 mod states;
 mod terms;
 #[cfg(test)]

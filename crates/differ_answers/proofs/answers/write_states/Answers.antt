@@ -1,11 +1,13 @@
-use Rattle.std.proofs.Common.{◌≡◌, ◌≤◌, ◌-◌, ◌+◌, ◌∙◌, ap, length, arith}
+use Rattle.std.proofs.Common.{◌≡◌, ◌≤◌, ◌-◌, ◌+◌, ◌∙◌, ap, length, subst, sym, arith}
 use Rattle.std.specs.Prelude.{slice_get}
 use Rattle.magnetic_groups.specs.Sets.{In}
 use Rattle.reduced_form.specs.Forms.{form_table}
 use Rattle.reduced_form.proofs.ToldLaws.{err_same}
 use Rattle.tensor_rank.specs.Flags.{marks_of}
 use Rattle.state_marks.proofs.MarkLaws.{a_row_grows, some_state}
-use Rattle.differ_answers.proofs.StateTexts.{rows_named, writing-more, writing-start, written}
+use Rattle.tensor_defs.specs.Lists.{Each}
+use Rattle.differ_answers.specs.Standing.{IsKnown}
+use Rattle.differ_answers.proofs.StateTexts.{writing-more, writing-start, written}
 use Rattle.differ_answers.proofs.answers.write_states.Goals as goal
 
 pub loop-place-init : goal.loop-place-init
@@ -14,49 +16,44 @@ loop-place-init g c =
     record {
       writing = writing-start (marks_of c.flags-flags.result) r (In c.args.states.now.sub) (form_table r c.args.form.now)
           c.args.states.now.reps c.args.out.now.items;
+      known = subst (Each (IsKnown (marks_of c.flags-flags.result) r (form_table r c.args.form.now) c.args.out.now.items)) (sym c.new-known.ensures.items) tt;
       capacity = omega arith;
     }
 
-pub write_state-requires : goal.write_state-requires
-write_state-requires g c =
-    let r = g.R.Rank.R in
-    record {
-      named = rows_named (marks_of c.flags-flags.result) c.representative-op.result r g.R.Rank.LEN c.args.form.now c.in_ok-rows.rows
-          g.R.Rank.power c.in_ok-rows.ensures.ok;
-    }
-
-pub returns-in_err-rows-clause-grows : goal.returns-in_err-rows-clause-grows
-returns-in_err-rows-clause-grows g c =
+pub returns-in_err-write_known-clause-grows : goal.returns-in_err-write_known-clause-grows
+returns-in_err-write_known-clause-grows g c =
     let r = g.R.Rank.R in
     let s = c.args.states.now in
     let n = c.loop-place.place in
     let e : n ≡ n + 1 - 1 = omega arith in
-    err_same c.from_residual.result c.in_err-rows.field-0.0 _ c.from_residual.ensures.1 (λ p. λ j shape fits.
+    err_same c.from_residual.result c.in_err-write_known.field-0.0 _ c.from_residual.ensures.1 (λ p. λ j shape fits.
     a_row_grows j (In s.whole) (In s.sub) r (marks_of c.flags-flags.result) s.reps (form_table r c.args.form.now)
     c.count-place-end.ensures.states shape.rank_is (c.flags-flags.ensures ∙ shape.marks_are) fits (record {
       place = n;
       rep = c.representative-op.result;
       later = c.loop-place.auto.place;
       at = ap (slice_get s.reps) e ∙ c.representative-op.ensures.1;
-      grows = c.in_err-rows.ensures.grows p;
+      grows = c.in_err-write_known.ensures.grows p;
     }))
 
-pub returns-in_err-rows-clause-units : goal.returns-in_err-rows-clause-units
-returns-in_err-rows-clause-units g c =
-    err_same c.from_residual.result c.in_err-rows.field-0.0 _ c.from_residual.ensures.1 c.in_err-rows.ensures.units
+pub returns-in_err-write_known-clause-units : goal.returns-in_err-write_known-clause-units
+returns-in_err-write_known-clause-units g c =
+    err_same c.from_residual.result c.in_err-write_known.field-0.0 _ c.from_residual.ensures.1 c.in_err-write_known.ensures.units
 
 pub loop-place-preserved : goal.loop-place-preserved
 loop-place-preserved g c =
     let r = g.R.Rank.R in
     let n = c.loop-place.place in
     let e : n ≡ n + 1 - 1 = omega arith in
+    let state = c.in_ok-write_known.ensures.ok in
     record {
       writing = writing-more (marks_of c.flags-flags.result) r (In c.args.states.now.sub) (form_table r c.args.form.now)
-          c.args.states.now.reps n c.representative-op.result c.in_ok-rows.rows c.args.out.now.items c.loop-place.out.items
-          c.write_state.new.out.items c.loop-place.auto.place
-          (ap (slice_get c.args.states.now.reps) e ∙ c.representative-op.ensures.1) c.in_ok-rows.ensures.ok
-          c.loop-place.invariant.writing c.in_ok-write_state.ensures.ok;
-      capacity = omega (arith, c.loop-place.invariant.capacity, c.in_ok-write_state.ensures.capacity);
+          c.args.states.now.reps n c.representative-op.result state.state c.args.out.now.items c.loop-place.out.items
+          c.write_known.new.out.items c.loop-place.auto.place
+          (ap (slice_get c.args.states.now.reps) e ∙ c.representative-op.ensures.1) state.rows
+          c.loop-place.invariant.writing state.text;
+      known = c.in_ok-write_known.ensures.known;
+      capacity = omega (arith, c.loop-place.invariant.capacity, c.in_ok-write_known.ensures.capacity);
     }
 
 pub returns-clause-ok : goal.returns-clause-ok

@@ -1,10 +1,11 @@
-use Rattle.std.proofs.Common.{◌≡◌, ◌++◌, ◌∷◌, [], ◌∙◌, List, ℕ, ap, arith}
+use Rattle.std.proofs.Common.{◌≡◌, ◌++◌, ◌∷◌, [], ◌∙◌, List, ℕ, ap, length, arith}
 use Rattle.std.specs.Prelude.{codes}
 use Rattle.std.specs.Fmt.{decimal}
 use Rattle.text_defs.specs.AnswerTexts.{line_of}
 use Rattle.reduced_form.specs.Texts.{lines_upto}
 use Rattle.reduced_form.proofs.TextLaws.{lines_grown, lines_start}
 use Rattle.differ_answers.specs.Texts.{marked_text}
+use Rattle.differ_answers.proofs.StandingLaws.{lines_here}
 use Rattle.differ_answers.proofs.TextLaws.{state_written}
 use Rattle.differ_answers.proofs.states.write_state.Goals as goal
 
@@ -32,5 +33,18 @@ returns-clause-ok g c =
     line_of (codes "state" ∷ decimal c.args.number ∷ codes "differs" ∷ decimal x ∷ codes "of" ∷ decimal y ∷ []) in
     let last : c.loop-component.component ≡ n = omega (arith, c.loop-component-test.false, c.LEN-component-end.ensures) in
     state_written c.args.number r n f s g.R.Rank.power c.requires.named old c.write_front.new.out.items c.loop-component.out.items
-    (c.in_ok-write_front.ensures.ok ∙ (λ i. old ++ text (c.count_marked.ensures i) (c.LEN.ensures i)))
+    (c.in_ok-write_front.ensures.ok ∙ (λ i. old ++ text (c.count_marked-count.ensures i) (c.LEN.ensures i)))
     (c.loop-component.invariant.items ∙ ap (λ (k : ℕ). c.write_front.new.out.items ++ lines_upto (marked_text r f s) k) last)
+
+pub returns-clause-lines : goal.returns-clause-lines
+returns-clause-lines g c =
+    let r = g.R.Rank.R in
+    let n = g.R.Rank.LEN in
+    let f = c.args.form.now in
+    let s = c.args.rows.now in
+    let front = c.write_front.new.out.items in
+    let last : c.loop-component.component ≡ n = omega (arith, c.loop-component-test.false, c.LEN-component-end.ensures) in
+    lines_here r n f s g.R.Rank.power c.requires.named front c.loop-component.out.items
+    (c.loop-component.invariant.items ∙ ap (λ (k : ℕ). front ++ lines_upto (marked_text r f s) k) last)
+    (record { count = c.count_marked-count.result; start = length c.as_slice-start.result.now; end = length c.as_slice-end.result.now })
+    c.count_marked-count.ensures (ap length c.as_slice-start.ensures.value) (ap length c.as_slice-end.ensures.value)
