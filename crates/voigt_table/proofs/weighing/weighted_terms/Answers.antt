@@ -7,7 +7,7 @@ use Rattle.reduced_form.specs.declared.forms.Term.{Term}
 use Rattle.voigt_table.specs.Blocks.{entry_at, sizes_of}
 use Rattle.voigt_table.specs.Weighing.{AreWeightedTerms, IsWeighted, entry_of_place}
 use Rattle.voigt_table.proofs.WeightLaws.{pow2}
-use Rattle.voigt_table.proofs.weighing.weighted_row.Goals as goal
+use Rattle.voigt_table.proofs.weighing.weighted_terms.Goals as goal
 
 pub loop-place-preserved : goal.loop-place-preserved
 loop-place-preserved c =
