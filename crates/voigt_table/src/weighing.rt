@@ -89,13 +89,11 @@ fn weighted_terms(
     ensures ok { IfOk result (λ new. AreWeightedTerms weights (entry_of_place (sizes_of blocks) free.now) (entry_at (sizes_of blocks) number) row.now new.items) }
     ensures grows { IfErr result (λ e. e ≡ SolveFault.TooLarge → WeighsTooMuch weights (entry_of_place (sizes_of blocks) free.now) (entry_at (sizes_of blocks) number) row.now) }
 {
-    let shift = blocks.entry(number).shift(weights);
+    let shift = blocks.shift(number, weights);
     let mut new = SmallVec::new(alloc);
     for place in 0..row.len() {
         let term = &row[place];
-        let other = blocks
-            .entry(free[term.free as usize] as usize)
-            .shift(weights);
+        let other = blocks.shift(free[term.free as usize] as usize, weights);
         push_weighted(&mut new, term, shift, other)?;
     }
     Ok(new)
