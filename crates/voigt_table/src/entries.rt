@@ -74,6 +74,18 @@ impl Blocks {
         }
     }
 
+    /// The power of 2 that is the weight of the entry of a number.
+    pub fn shift(self, number: usize, weights: Weights) -> u8
+        requires { number < entry_count (sizes_of self) }
+        ensures value { result ≡ shift weights (entry_at (sizes_of self) number) }
+        ensures small { result ≤ 2 }
+    {
+        match weights {
+            Weights::Plain => 0,
+            Weights::Shear => self.entry(number).shift(weights),
+        }
+    }
+
     /// The same as `component`, by arithmetic.
     fn component_at(self, number: usize) -> usize
         requires { number < entry_count (sizes_of self) }

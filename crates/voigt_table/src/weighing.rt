@@ -74,7 +74,32 @@ fn push_weighted(
     }
 }
 
-/// The row of the entry of a number from that of its component, with free entries by their numbers.
+/// The terms of the entry of a number from those of its component, with free entries by their numbers.
+fn weighted_terms(
+    alloc: Global,
+    row: &[Term],
+    number: usize,
+    free: &[u8],
+    blocks: Blocks,
+    weights: Weights,
+) -> Result<SmallVec<Term, 2>, SolveFault>
+    requires number { number < entry_count (sizes_of blocks) }
+    requires named { Each (λ t. t.free < length free.now) row.now }
+    requires entries { (k : ℕ) → k < length free.now → slice_index free.now k < entry_count (sizes_of blocks) }
+    ensures ok { IfOk result (λ new. AreWeightedTerms weights (entry_of_place (sizes_of blocks) free.now) (entry_at (sizes_of blocks) number) row.now new.items) }
+    ensures grows { IfErr result (λ e. e ≡ SolveFault.TooLarge → WeighsTooMuch weights (entry_of_place (sizes_of blocks) free.now) (entry_at (sizes_of blocks) number) row.now) }
+{
+    let shift = blocks.shift(number, weights);
+    let mut new = SmallVec::new(alloc);
+    for place in 0..row.len() {
+        let term = &row[place];
+        let other = blocks.shift(free[term.free as usize] as usize, weights);
+        push_weighted(&mut new, term, shift, other)?;
+    }
+    Ok(new)
+}
+
+/// The row of the entry of a number from that of its component: most have no term.
 fn weighted_row(
     alloc: Global,
     row: &[Term],
@@ -89,19 +114,10 @@ fn weighted_row(
     ensures ok { IfOk result (λ new. AreWeightedTerms weights (entry_of_place (sizes_of blocks) free.now) (entry_at (sizes_of blocks) number) row.now new.items) }
     ensures grows { IfErr result (λ e. e ≡ SolveFault.TooLarge → WeighsTooMuch weights (entry_of_place (sizes_of blocks) free.now) (entry_at (sizes_of blocks) number) row.now) }
 {
-    let mut new = SmallVec::new(alloc);
     if row.is_empty() {
-        return Ok(new);
+        return Ok(SmallVec::new(alloc));
     }
-    let shift = blocks.entry(number).shift(weights);
-    for place in 0..row.len() {
-        let term = &row[place];
-        let other = blocks
-            .entry(free[term.free as usize] as usize)
-            .shift(weights);
-        push_weighted(&mut new, term, shift, other)?;
-    }
-    Ok(new)
+    weighted_terms(alloc, row, number, free, blocks, weights)
 }
 
 /// The free entries of a component table, by their numbers.

@@ -1,4 +1,4 @@
-use Rattle.std.proofs.Common.{◌≡◌, ◌+◌, ◌<◌, ℕ, List, length, take, ap, sym, ◌∙◌, subst, rules}
+use Rattle.std.proofs.Common.{◌≡◌, ◌+◌, ◌<◌, ℕ, List, length, take, sym, subst, rules}
 use Rattle.std.proofs.lemmas.List.Elements.{all_zip_more}
 use Rattle.tensor_defs.specs.Number.{Number, mul, value_of}
 use Rattle.tensor_defs.specs.Voigt.{VoigtEntry, halved, shift, weighted}
@@ -7,7 +7,7 @@ use Rattle.reduced_form.specs.declared.forms.Term.{Term}
 use Rattle.voigt_table.specs.Blocks.{entry_at, sizes_of}
 use Rattle.voigt_table.specs.Weighing.{AreWeightedTerms, IsWeighted, entry_of_place}
 use Rattle.voigt_table.proofs.WeightLaws.{pow2}
-use Rattle.voigt_table.proofs.weighing.weighted_row.Goals as goal
+use Rattle.voigt_table.proofs.weighing.weighted_terms.Goals as goal
 
 pub loop-place-preserved : goal.loop-place-preserved
 loop-place-preserved c =
@@ -18,8 +18,8 @@ loop-place-preserved c =
     let x : Number = value_of t.factor in
     let pushed = c.in_ok-push_weighted.ensures.ok in
     let inside : c.loop-place.place < length c.args.row.now = search rules in
-    let of_free : c.shift-other.result ≡ shift w (frees t.free) = c.shift-other.ensures.value ∙ ap (shift w) c.entry-in-loop-place.ensures in
-    let of_entry : c.shift-shift.result ≡ shift w e = c.shift-shift.ensures.value ∙ ap (shift w) c.entry.ensures in
+    let of_free : c.shift-other.result ≡ shift w (frees t.free) = c.shift-other.ensures.value in
+    let of_entry : c.shift-shift.result ≡ shift w e = c.shift-shift.ensures.value in
     let same : halved c.shift-other.result (mul (pow2 c.shift-shift.result) x) ≡ weighted w e (frees t.free) x =
     λ i. halved (of_free i) (mul (pow2 (of_entry i)) x) in
     let one : IsWeighted w frees e t pushed.0 = record {

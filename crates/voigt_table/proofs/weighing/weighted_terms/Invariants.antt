@@ -1,7 +1,7 @@
 use Rattle.std.proofs.Common.{take}
 use Rattle.voigt_table.specs.Blocks.{entry_at, sizes_of}
 use Rattle.voigt_table.specs.Weighing.{AreWeightedTerms, entry_of_place}
-use Rattle.voigt_table.proofs.weighing.weighted_row.Given as goal
+use Rattle.voigt_table.proofs.weighing.weighted_terms.Given as goal
 
 abbrev pub invariant-loop-place : goal.invariant-loop-place
 invariant-loop-place l = record {
