@@ -102,16 +102,15 @@ def link_tree(source, to):
 
 
 def processors():
-    """How many jobs a crate may have: one a processor, where memory holds them; and how many times as many may run, at most two."""
-    found, wide = len(os.sched_getaffinity(0)), 1
+    """How many jobs to run: one a processor, where memory holds them."""
+    found = len(os.sched_getaffinity(0))
     with contextlib.suppress(OSError, ValueError):
         quota, period = pathlib.Path("/sys/fs/cgroup/cpu.max").read_text().split()
         found = min(found, max(int(quota) // int(period), 1))
     with contextlib.suppress(OSError, AttributeError):
         available = re.search(r"MemAvailable:\s+(\d+)", pathlib.Path("/proc/meminfo").read_text())
-        held = max(1024 * int(available[1]) // MEMORY_OF_A_JOB, 1)
-        found, wide = min(found, held), min(2, max(held // found, 1))
-    return found, wide
+        found = min(found, max(1024 * int(available[1]) // MEMORY_OF_A_JOB, 1))
+    return found
 
 
 @contextlib.contextmanager
@@ -205,14 +204,14 @@ class Builder:
                 shutil.rmtree(mine / "out" / "incremental", ignore_errors=True)
                 shutil.move(own / "out" / "incremental", mine / "out" / "incremental")
 
-    def prove(self, name, lane, jobs, yields):
-        """Proves one crate in a lane, with so much less priority; a program is linked too."""
+    def prove(self, name, lane, jobs):
+        """Proves one crate in a lane; a program is linked too."""
         begin = time.monotonic()
         self.bring(name, lane)
         folder, verb = lane / "crates" / name, "run" if name in self.programs else "lib"
         with open(self.room / f"{name}.log", "w+", errors="replace") as out:
             how = {"cwd": folder, "stdin": subprocess.DEVNULL, "stdout": out, "stderr": subprocess.STDOUT}
-            how.update(start_new_session=True, preexec_fn=lambda: (end_with_this(), os.nice(yields)))
+            how.update(start_new_session=True, preexec_fn=end_with_this)
             self.running[name] = ran = subprocess.Popen(["rt", verb, "--jobs", str(jobs)], **how)
             status = ran.wait()
             out.seek(0)
@@ -241,32 +240,28 @@ class Builder:
         say(f"proved {name} ({self.done} of {len(self.order)}, {minutes:.1f} minutes)")
 
     def start(self, pool, left, given, tasks, lanes):
-        """Starts the crates that can be proved now, those with the longest chain first. The end waits for the longest chain, so its
-        crate gets a job for each processor, and one whose chain is nearly as long gets two; the others get one each, with less
-        priority, so that they take what those leave."""
+        """Starts the crates that can be proved now, those with the longest chain first. Processors that no crate waits for go
+        to those that start; a crate whose chain is long beside all that is left gets two though others wait."""
         ready = [it for it in left if all(below in given for below in self.crates[it][1])]
         ready.sort(key=lambda it: -self.chain[it])
-        longest = max((self.chain[it] for it in self.order if it not in given), default=0)
-        free = lanes * self.wide - sum(jobs for _, _, jobs in tasks.values())
-        for name in ready:
-            if free <= 0:
+        idle = lanes - sum(jobs for _, _, jobs in tasks.values())
+        work = sum(self.weight[it] for it in self.order if it not in given)
+        for at, name in enumerate(ready):
+            if idle <= 0:
                 return
-            if self.chain[name] == longest:
-                jobs, yields = min(lanes, MOST_JOBS), 0
-            elif self.chain[name] * 10 > longest * 9:
-                jobs, yields = min(lanes, 2), 5
-            else:
-                jobs, yields = 1, 10
+            jobs = max(1, min(MOST_JOBS, idle // (len(ready) - at)))
+            if self.chain[name] * lanes > 2 * work:
+                jobs = max(jobs, min(2, idle))
             lane = self.lane()
             left.remove(name)
-            free -= jobs
-            tasks[pool.submit(self.prove, name, lane, jobs, yields)] = name, lane, jobs
+            idle -= jobs
+            tasks[pool.submit(self.prove, name, lane, jobs)] = name, lane, jobs
 
     def build(self):
         self.prepare()
-        lanes, self.wide = processors()
+        lanes = processors()
         left, given, tasks, failed = list(self.order), set(), {}, []
-        with ThreadPoolExecutor(lanes * self.wide) as pool:
+        with ThreadPoolExecutor(lanes) as pool:
             try:
                 while left or tasks:
                     if not failed:
