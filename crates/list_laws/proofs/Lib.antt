@@ -4,3 +4,4 @@ pub mod Rising
 pub mod Tests
 pub mod Below
 pub mod Bridges
+pub mod Digits

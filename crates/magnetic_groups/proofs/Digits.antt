@@ -5,18 +5,18 @@
 --   count_told     how many places aren't marked
 --   within_told    each mark is among others
 --   either_told    the matrices that are marked
---   shifted_digit, next_told, gap_skipped    the digits from a place on, the next 1 among them, and matrices that aren't marked
+--   gap_skipped    matrices that aren't marked
 use Rattle.std.proofs.Common.{◌≡◌, ◌≢◌, ℕ, zero, suc, ◌+◌, ◌*◌, ◌/◌, ◌%◌, ◌^◌, ◌<◌, ◌≤◌, ◌-◌, Bool, true, false, cond, List}
-use Rattle.std.proofs.Common.{length, refl, ap, sym, ◌∙◌, arith, subst, lit<, ◌⊎◌, inl, inr}
+use Rattle.std.proofs.Common.{length, refl, ap, sym, ◌∙◌, arith, subst, ◌⊎◌, inl, inr}
 use Rattle.std.specs.Prelude.{nat_eq, replicate, set, bit_and, bit_or, IsTrue, ◌↔◌}
-use Rattle.std.specs.Int.{bit_at, w64, bit_not, trailing_zeros}
+use Rattle.std.specs.Int.{bit_at, w64, bit_not}
 use Rattle.std.specs.Int.RustNames.{count_ones}
 use Rattle.std.proofs.lemmas.Bool.{cases_eq, cases_lt, eqb-true}
 use Rattle.std.proofs.lemmas.List.{length-set, get_or-set_same, get_or-set_other}
 use Rattle.std.proofs.lemmas.List.FromFn.{fill_by_all}
-use Rattle.std.proofs.Math.Nat.{pow-succ', div-one, div-div-eq-div-mul, div-le_self}
-use Rattle.std.proofs.lemmas.Nat.{ones_cat, and_le_l}
-use Rattle.std.proofs.lemmas.Nat.Bits.{bit_at_lowest, bit_at-suc, bit_at-zero, shr_and_one, bit_at_and, bit_at_or, bit_at_not, bit_at_set_same, bit_at_set_other, bit_at-lt, bit_at_above, bit_at-trailing_zeros, same_from_bits_below}
+use Rattle.std.proofs.Math.Nat.{pow-succ'}
+use Rattle.std.proofs.lemmas.Nat.Bits.{bit_at_lowest, bit_at-suc, shr_and_one, bit_at_or, bit_at_set_same, bit_at_set_other, bit_at-lt}
+use Rattle.list_laws.proofs.Digits.{one_digit, ones_next, digits_within, digits_outside}
 use Rattle.magnetic_groups.specs.Marks.{mark_at, marked_below, unmarked, digit_at, marks_from, marks_of, AreWithin}
 use Rattle.magnetic_groups.proofs.Marked.{marked_past_both}
 
@@ -131,17 +131,6 @@ more_unprimed u p k h e = set_by u p v p k h (unprimed_at v p k e ∙ ap (λ x. 
         unprimed_at v p j f ∙ ap (λ x. nat_eq x 1) (bit_at_set_other w64 u (k / 2) half (j / 2) n) ∙ sym (unprimed_at u p j f)
 
 -- ---- how many
-one_digit : (b r : ℕ) → b < 2 → cond (nat_eq b 1) r (1 + r) + count_ones b ≡ 1 + r
-unfolding count_ones
-one_digit zero r h = omega arith
-one_digit (suc zero) r h = omega arith
-one_digit (suc (suc b)) r h = absurd (omega arith)
-
-ones_next : (x : ℕ) → count_ones x ≡ count_ones (x / 2) + count_ones (x % 2)
-ones_next x =
-    let e : x / 2 * 2 ^ 1 + x % 2 ≡ x = omega arith in
-    ap count_ones (sym e) ∙ ones_cat 1 (x / 2) (x % 2) (omega arith)
-
 count_from : (n u p : ℕ) → u < 2 ^ n → p < 2 ^ n → count_ones u + count_ones p + unmarked (marks_from n u p) ≡ 2 * n
 count_from zero u p h l =
     let z : count_ones 0 ≡ 0 = omega (arith, one_digit 0 0 (omega arith)) in
@@ -163,30 +152,6 @@ unfolding marks_of
 count_told u p h l = count_from 64 u p h l
 
 -- ---- each mark is among others
-digits_within : (x y : ℕ) → x < 2 ^ 64 → y < 2 ^ 64 → bit_and x (bit_not w64 y) ≡ 0 → (i : ℕ) → i < 64 → bit_at x i ≡ 1 → bit_at y i ≡ 1
-digits_within x y h l e i k o =
-    let a = bit_at_and x (bit_not w64 y) i in
-    let b = bit_at_not w64 y i l k in
-    let c : bit_at (bit_and x (bit_not w64 y)) i ≡ 0 = ap (λ z. bit_at z i) e ∙ bit_at-zero i in
-    let d = bit_at-lt y i in
-    omega (arith, a, b, c, d, o)
-
-digits_outside : (x y : ℕ) → x < 2 ^ 64 → y < 2 ^ 64 → ((i : ℕ) → i < 64 → bit_at x i ≡ 1 → bit_at y i ≡ 1) → bit_and x (bit_not w64 y) ≡ 0
-digits_outside x y h l w =
-    let b = and_le_l x (bit_not w64 y) in
-    same_from_bits_below 64 (bit_and x (bit_not w64 y)) 0 (omega (arith, b)) (lit< tt) (λ i k. by i k (cases_eq (bit_at x i) 1) ∙ sym (bit_at-zero i))
-  where
-    by : (i : ℕ) → i < 64 → (bit_at x i ≡ 1) ⊎ (bit_at x i ≢ 1) → bit_at (bit_and x (bit_not w64 y)) i ≡ 0
-    by i k (inl o) =
-        let a = bit_at_and x (bit_not w64 y) i in
-        let b = bit_at_not w64 y i l k in
-        let c = w i k o in
-        omega (arith, a, b, c, o)
-    by i k (inr o) =
-        let a = bit_at_and x (bit_not w64 y) i in
-        let b = bit_at-lt x i in
-        omega (arith, a, b, o)
-
 module _ (u p v q : ℕ) (hu : u < 2 ^ 64) (hv : v < 2 ^ 64) where
   outside_unprimed : AreWithin (marks_of u p) (marks_of v q) → bit_and u (bit_not w64 v) ≡ 0
   outside_unprimed w = digits_outside u v hu hv (λ i h o.
@@ -249,41 +214,7 @@ either_told u p c h = (λ e. forth e (cases_eq (bit_at u c) 1), back)
         let a : bit_at p c ≡ 1 = eqb-true _ _ (sym (primed_of u p c h) ∙ t) in
         omega (arith, m, a, b)
 
--- ---- the digits from a place on
-pub shifted_digit : (n k i : ℕ) → bit_at (n / 2 ^ k) i ≡ bit_at n (k + i)
-shifted_digit n zero i =
-    let e : i ≡ zero + i = omega arith in
-    ap (λ x. bit_at x i) (div-one n) ∙ ap (bit_at n) e
-shifted_digit n (suc k) i =
-    let e : suc k + i ≡ suc (k + i) = omega arith in
-    ap (λ x. bit_at (n / x) i) (pow-succ' 2 k) ∙ ap (λ x. bit_at x i) (sym (div-div-eq-div-mul n 2 (2 ^ k)))
-    ∙ shifted_digit (n / 2) k i ∙ sym (bit_at-suc n (k + i)) ∙ ap (bit_at n) (sym e)
-
--- the least place from k on with a digit 1
-pub next_told : (n k : ℕ) → n < 2 ^ 64 → n / 2 ^ k ≢ 0 →
-    (k + trailing_zeros w64 (n / 2 ^ k) < 64) × (bit_at n (k + trailing_zeros w64 (n / 2 ^ k)) ≡ 1)
-    × ((c : ℕ) → k ≤ c → c < k + trailing_zeros w64 (n / 2 ^ k) → bit_at n c ≡ 0)
-next_told n k small some = (below (cases_lt (k + trailing_zeros w64 (n / 2 ^ k)) 64), one, before)
-  where
-    less : n / 2 ^ k < 2 ^ 64
-    less = let l = div-le_self n (2 ^ k) in omega (arith, l, small)
-
-    there : 0 < n / 2 ^ k
-    there = omega (arith, some)
-
-    one : bit_at n (k + trailing_zeros w64 (n / 2 ^ k)) ≡ 1
-    one = sym (shifted_digit n k (trailing_zeros w64 (n / 2 ^ k))) ∙ (bit_at-trailing_zeros w64 (n / 2 ^ k) there less).1
-
-    below : (k + trailing_zeros w64 (n / 2 ^ k) < 64) ⊎ (64 ≤ k + trailing_zeros w64 (n / 2 ^ k)) → k + trailing_zeros w64 (n / 2 ^ k) < 64
-    below (inl h) = h
-    below (inr h) = let no = bit_at_above n 64 (k + trailing_zeros w64 (n / 2 ^ k)) small h in absurd (omega (arith, one, no))
-
-    before : (c : ℕ) → k ≤ c → c < k + trailing_zeros w64 (n / 2 ^ k) → bit_at n c ≡ 0
-    before c h l =
-        let e : k + (c - k) ≡ c = omega arith in
-        ap (bit_at n) (sym e) ∙ sym (shifted_digit n k (c - k))
-        ∙ (bit_at-trailing_zeros w64 (n / 2 ^ k) there less).2 (c - k) (omega arith)
-
+-- ---- matrices that aren't marked
 gap_told : (m : List Bool) (a k : ℕ) → ((c : ℕ) → a ≤ c → c < a + k → ¬ ((mark_at m (2 * c) ≡ true) ⊎ (mark_at m (2 * c + 1) ≡ true))) →
     marked_below (2 * (a + k)) m ≡ marked_below (2 * a) m
 gap_told m a zero d =

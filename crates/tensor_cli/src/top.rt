@@ -5,14 +5,14 @@ ghost use Rattle.tensor_ports.specs.Causes.{Rose};
 ghost use Rattle.line_runs.specs.Runs.{Leaves, IsComplete};
 ghost use Rattle.run_words.specs.declared.Generate as words_of;
 ghost use Rattle.run_words.specs.Words.{IsAccepted};
-ghost use Rattle.worded_runs.specs.Asked.{AreRefused};
-ghost use Rattle.tensor_cli.specs.Worded.{IsUnstarted, IsWhole, LeavesWorded, outcome_at};
+ghost use Rattle.generated_runs.specs.Told.{Becomes};
+ghost use Rattle.worded_runs.specs.Asked.{AreRefused, IsUnstarted, IsWhole, LeavesAsked};
 
 use line_answers::{Answers, Teller};
 use line_runs::Outcome;
 use std::alloc::Global;
 use tensor_ports::{Sink, Source};
-use worded_runs::{Ended, run_asked};
+use worded_runs::run_asked;
 
 /// The most bytes of an input: 2^32.
 const LIMIT: u64 = 4294967296;
@@ -44,33 +44,6 @@ pub fn run_within<I: Source, O: Sink>(
     line_runs::run_within::<Answers, I, O>(alloc, limit, source, sink)
 }
 
-/// The outcome of a run that words ask for.
-fn outcome_of(ended: Ended) -> Outcome
-    ensures { result ≡ outcome_at ended }
-{
-    match ended {
-        Ended::Answered => Outcome::Answered,
-        Ended::SomeRefused => Outcome::SomeRefused,
-        Ended::Usage => Outcome::Usage,
-        Ended::WriteFault => Outcome::WriteFault,
-        Ended::NoMemory => Outcome::NoMemory,
-    }
-}
-
-/// Makes the generated run that the words ask for.
-fn run_worded<O: Sink>(alloc: Global, words: &[String], sink: &mut O) -> Outcome
-    ensures leaves { LeavesWorded (map string_bytes words.now) result (O.written sink.old) (O.written sink.new) }
-    ensures refused { AreRefused (map string_bytes words.now) → IsUnstarted result × (sink.new ≡ sink.old) }
-    ensures memory { result ≡ Outcome.NoMemory → sink.new ≡ sink.old }
-    ensures unread { result ≡ Outcome.ReadFault → ⊥ }
-    ensures write_cause { result ≡ Outcome.WriteFault → Rose (O.faults sink.old) (O.faults sink.new) }
-    ensures steady { (result ≡ Outcome.WriteFault → ⊥) → O.faults sink.new ≡ O.faults sink.old }
-    ensures complete { (Rose (O.faults sink.old) (O.faults sink.new) → ⊥) → (run : words_of.Generate)
-        → IsAccepted (map string_bytes words.now) run → IsWhole result }
-{
-    outcome_of(run_asked(alloc, words, &mut Teller::new(alloc), sink))
-}
-
 /// Answers the lines of the source; with words, makes the generated run that they ask for, and reads nothing.
 pub fn run<I: Source, O: Sink>(
     alloc: Global,
@@ -95,7 +68,7 @@ pub fn run<I: Source, O: Sink>(
 
     // With words: nothing is read, and the summary of the run that they ask for is written, or a front of it, or nothing.
     ensures unread { (words.now ≡ [] → ⊥) → source.new ≡ source.old }
-    ensures worded { (words.now ≡ [] → ⊥) → LeavesWorded (map string_bytes words.now) result (O.written sink.old) (O.written sink.new) }
+    ensures worded { (words.now ≡ [] → ⊥) → LeavesAsked Becomes (map string_bytes words.now) result (O.written sink.old) (O.written sink.new) }
 
     // Words that aren't accepted start nothing, and are told apart from those that are, unless memory is wanting.
     ensures usage { (words.now ≡ [] → ⊥) → AreRefused (map string_bytes words.now) → IsUnstarted result × (sink.new ≡ sink.old) }
@@ -106,7 +79,7 @@ pub fn run<I: Source, O: Sink>(
         → IsAccepted (map string_bytes words.now) run → IsWhole result }
 {
     if !words.is_empty() {
-        return run_worded(alloc, words, sink);
+        return run_asked(alloc, words, &mut Teller::new(alloc), sink);
     }
     run_within(alloc, LIMIT, source, sink)
 }

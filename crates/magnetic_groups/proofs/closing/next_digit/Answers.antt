@@ -1,7 +1,7 @@
 use Rattle.std.proofs.Common.{◌≡◌, ◌+◌, ◌-◌, sym, ◌∙◌, ap, arith}
 use Rattle.std.specs.Int.{bit_at}
 use Rattle.std.proofs.lemmas.Nat.Bits.{bit_at-zero}
-use Rattle.magnetic_groups.proofs.Digits.{shifted_digit, next_told}
+use Rattle.list_laws.proofs.Digits.{shifted_digit, next_told}
 use Rattle.magnetic_groups.proofs.closing.next_digit.Goals as goal
 
 pub returns-then-left-eq0-clause-least : goal.returns-then-left-eq0-clause-least
