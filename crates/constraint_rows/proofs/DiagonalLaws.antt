@@ -3,8 +3,8 @@
 --   own_coefficient, turns_by, not_turns_by    it carries each component to itself
 --   own_carried, killed_along    an exchange of blocks leaves the coefficient from a component to itself
 --   killed_at, killed_none, entry_more    an element of a list kills
---   diagonals_start, diagonals_skip, diagonals_more, diagonal_columns, turned_marked    the diagonal elements by their rows
-use Rattle.std.proofs.Common.{◌≡◌, ◌≢◌, ℕ, ◌+◌, ◌<◌, ◌^◌, false, List, [], ◌∷◌, ◌++◌, length, length-append, get_or, refl, ap, sym, ◌∙◌, arith, subst, inl, inr}
+--   diagonals_start, diagonals_skip, diagonals_more, diagonal_columns, told_lower, turned_marked    the diagonal elements by their rows
+use Rattle.std.proofs.Common.{◌≡◌, ◌≢◌, ℕ, ◌+◌, ◌<◌, ◌^◌, ◌⊎◌, Bool, true, false, List, [], ◌∷◌, ◌++◌, length, length-append, get_or, refl, ap, sym, ◌∙◌, arith, subst, inl, inr}
 use Rattle.std.proofs.lemmas.Bool.{cases_lt}
 use Rattle.std.proofs.lemmas.List.{get_or_append_left, get_or_default, get_or_push}
 use Rattle.number_laws.proofs.Sameness.{one_not_zero}
@@ -19,7 +19,8 @@ use Rattle.tensor_defs.specs.declared.Sign.{Sign}
 use Rattle.tensor_defs.specs.declared.Sign.TheVariants.{Plus, Minus}
 use Rattle.magnetic_groups.specs.Sets.{In}
 use Rattle.sign_moves.specs.declared.classes.Entry.{Entry}
-use Rattle.sign_moves.specs.Classes.{entry_at}
+use Rattle.sign_moves.specs.Classes.{entry_at, first_at, vanishes_at}
+use Rattle.sign_moves.specs.Firsts.{AreSettled}
 use Rattle.sign_moves.specs.Signs.{signed}
 use Rattle.sign_moves.proofs.SignLaws.{own_negative, sign_not_zero, signed-signed}
 use Rattle.tensor_rank.specs.Carried.{Carried, rests, steps}
@@ -238,6 +239,15 @@ turned_killed m hs ps h n r c size l = (there, back)
         let at : get_or hs p identity ≡ k.element = get_or_default hs p identity k.element k.inside.1 ∙ k.inside.2 in
         let f = h.all p k.inside.1 (subst IsDiagonal (sym at) k.diagonal) in
         by_sign f.0 f.1 (get_or hs p identity) (subst IsDiagonal (sym at) k.diagonal) f.2 (subst (Turns m (index_of r c)) (sym at) (record { turns = k.turns })) (op_sign r (op_at ps f.0) c) refl
+
+-- a marked entry of a lower first component tells whether it is turned round
+pub told_lower : (r n : ℕ) (ps : List PlainOp) (table marked : List Entry) → AreSettled n table → (k : ℕ) → k < n → first_at table k < length marked →
+    ((i : ℕ) → i < length marked → IsTurnedEntry r ps (entry_at table i) (entry_at marked i)) →
+    (vanishes_at marked (first_at table k) ≡ true) ↔ ((vanishes_at table k ≡ true) ⊎ IsTurned r ps (first_at table k))
+told_lower r n ps table marked s k l h each =
+    let f = first_at table k in
+    subst (λ (x : Bool). (vanishes_at marked f ≡ true) ↔ ((x ≡ true) ⊎ IsTurned r ps f)) (s.together k l)
+    (subst (λ (x : ℕ). (vanishes_at marked f ≡ true) ↔ ((vanishes_at table f ≡ true) ⊎ IsTurned r ps x)) (s.own k l) (each f h).vanishes)
 
 pub turned_marked : (m : Marks) (hs : List Operation) (ps : List PlainOp) → AreDiagonals m hs (length hs) ps → (n r : ℕ) (old new : Entry) → n ≡ 3 ^ r → old.first < n →
     IsTurnedEntry r ps old new → IsMarked r m hs old new

@@ -1,5 +1,5 @@
 -- Parts of rows, with a number added at a component.
---   added_new, added_old, each_at_place, counted_kept    by the place of the component
+--   added_new, added_old, each_at_place, before_front, counted_kept    by the place of the component
 --   IsTotalBelow, order_total    a strict order that is total below n
 --   whole-add, part_is, row_at-added    what the parts have at a component
 --   IsGathering, class_part, term_part, terms_sum, gathering, row_at-gathered, gathered-append
@@ -68,6 +68,18 @@ pub each_at_place : (P : Part → Type 0) (ps : List Part) → Each P ps → (k 
 each_at_place P [] e k h = absurd (omega arith)
 each_at_place P (p ∷ ps) e zero h = e.0
 each_at_place P (p ∷ ps) e (suc k) h = each_at_place P ps e.1 k (omega arith)
+
+-- what lies before a part that comes before a component comes before it too
+pub before_front : (before : ℕ → ℕ → Bool) → ((a b c : ℕ) → before a b ≡ true → before b c ≡ true → before a c ≡ true) → (d : ℕ) (ps : List Part) →
+    IsRising (parts_rise before) ps → (i : ℕ) → i < length ps → before (part_at_place ps i).component d ≡ true →
+    (k : ℕ) → k ≤ i → before (part_at_place ps k).component d ≡ true
+before_front before passes d [] r i h hit k l = absurd (omega arith)
+before_front before passes d (p ∷ ps) r zero h hit zero l = hit
+before_front before passes d (p ∷ ps) r zero h hit (suc k) l = absurd (omega arith)
+before_front before passes d (p ∷ ps) r (suc i) h hit zero l =
+    passes p.component (part_at_place ps i).component d
+    (each_at_place (λ q. IsTrue (before p.component q.component)) ps r.0 i (omega arith)) hit
+before_front before passes d (p ∷ ps) r (suc i) h hit (suc k) l = before_front before passes d ps r.1 i (omega arith) hit k (omega arith)
 
 pub counted_kept : (ps : List Part) (i : ℕ) (p : Part) (z k : ℤ) → i < length ps → p ≡ part_at_place ps i → z ≡ p.number +ℤ k → z ≢ pos 0 →
     set ps i (part p.component z) ≡ counted_at ps i k
@@ -347,13 +359,14 @@ each_term P (t ∷ ts) e zero h d = e.0
 each_term P (t ∷ ts) e (suc k) h d = each_term P ts e.1 k (omega arith) d
 
 pub gathered_small : (n r : ℕ) → n ≡ 3 ^ r → (o : Ordering) (es : List Entry) → AreSound n (before_at r o) es → (b : ℕ) (ts : List Term) →
-    AreTermsBelow n ts → length ts ≤ 729 → (k : ℕ) → k ≤ length ts → AreSmallParts n 729 (gathered (before_at r o) es b (take k ts) [])
+    AreTermsBelow n ts → length ts ≤ 729 → (k : ℕ) → k ≤ length ts → AreSmallParts n (before_at r o) 729 (gathered (before_at r o) es b (take k ts) [])
 gathered_small n r size o es sound b ts below few k h =
     let g = gathering n (before_at r o) (order_total n r size o) es sound b (take k ts)
     (each_take (λ t. t.component < n) ts below.each k) 0 [] (record { parts = tt; rising = tt; own = tt; small = tt }) in
     let l : length (take k ts) ≡ k = length-take-le k ts h in
     record {
       parts = g.parts;
+      rising = g.rising;
       small = each_map (λ p. unsigned_abs p.number ≤ 0 + length (take k ts)) (λ p. unsigned_abs p.number ≤ 729) (λ p m. omega arith)
           (gathered (before_at r o) es b (take k ts) []) g.small;
     }

@@ -14,7 +14,7 @@ use Rattle.std.specs.Prelude.{◌≡◌, ℕ, zero, suc, ◌+◌, ◌*◌, ◌/�
 use lib.IntN.{ℤ, pos, negsuc, ◌+ℤ◌}
 use Rattle.tensor_defs.specs.declared.Sign.{Sign}
 use Rattle.tensor_defs.specs.declared.Sign.TheVariants.{Plus, Minus}
-use Rattle.tensor_defs.specs.Lists.{Each}
+use Rattle.tensor_defs.specs.Lists.{Each, IsRising}
 use Rattle.tensor_defs.specs.Number.{Number, num_zero}
 use Rattle.tensor_defs.specs.Operation.{Axis, x1, x2, x3}
 use Rattle.tensor_defs.specs.Tensor.{Index, index_of}
@@ -22,7 +22,7 @@ use Rattle.tensor_defs.specs.Words.{Letter, level, plus, minus, Word, belongs, t
 use Rattle.sign_moves.specs.declared.classes.Entry.{Entry}
 use Rattle.sign_moves.specs.Signs.{times}
 use Rattle.constraint_rows.specs.Classes.{class_at}
-use Rattle.constraint_rows.specs.WordRows.{AreParts, AreWordRows}
+use Rattle.constraint_rows.specs.WordRows.{AreParts, AreWordRows, parts_rise}
 use Rattle.constraint_rows.specs.declared.rows.Part.{Part}
 use Rattle.constraint_rows.specs.declared.words.Term.{Term}
 
@@ -122,7 +122,8 @@ abbrev pub counted_at : List Part → ℕ → ℤ → List Part
 counted_at ps i k =
     take i ps ++ with_front (part_at_place ps i).component ((part_at_place ps i).number +ℤ k) (drop (suc i) ps)
 
--- components of a rank, with numbers other than 0 that are at most k
-pub record AreSmallParts (n k : ℕ) (ps : List Part) : Type 0 where
+-- components of a rank that rise in an order, with numbers other than 0 that are at most k
+pub record AreSmallParts (n : ℕ) (before : ℕ → ℕ → Bool) (k : ℕ) (ps : List Part) : Type 0 where
   pub parts : AreParts n ps
+  pub rising : IsRising (parts_rise before) ps
   pub small : Each (λ p. unsigned_abs p.number ≤ k) ps

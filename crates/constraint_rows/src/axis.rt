@@ -1,12 +1,13 @@
 //! The classes of components on the hexagonal axes: those under the exchanges of a symbol's blocks, less the components
 //! that a diagonal element of a group turns round.
-ghost use Rattle.std.specs.Prelude.{◌≡◌, ℕ, ◌+◌, ◌<◌, ◌↔◌, IfOk, OnOk, IsTrue, length};
+ghost use Rattle.std.specs.Prelude.{◌≡◌, ℕ, ◌+◌, ◌<◌, ◌↔◌, ◌⊎◌, IfOk, OnOk, IsTrue, length, true};
 ghost use Rattle.tensor_defs.specs.Elimination.{AreRepresentatives};
 ghost use Rattle.tensor_defs.specs.Frames.{IsDiagonal};
 ghost use Rattle.tensor_defs.specs.Jahn.{JahnSymbol};
 ghost use Rattle.tensor_defs.specs.Tensor.{index_of};
 ghost use Rattle.magnetic_groups.specs.Sets.{In};
-ghost use Rattle.sign_moves.specs.Classes.{first_at};
+ghost use Rattle.sign_moves.specs.Classes.{vanishes_at};
+ghost use Rattle.sign_moves.specs.Firsts.{AreSettled};
 ghost use Rattle.tensor_rank.specs.Flags.{marks_of};
 ghost use Rattle.tensor_rank.specs.Orders.{before_at, before_of};
 ghost use Rattle.tensor_rank.specs.Shapes.{IsShapeOf};
@@ -101,17 +102,24 @@ fn is_turned<R: Rank>(ops: &[PlainOp], c: Comp<R>) -> bool
     false
 }
 
-/// An entry, marked to vanish also where one of these operations turns its first component round.
-fn marked_entry<R: Rank>(entry: Entry, ops: &[PlainOp]) -> Entry
+/// An entry, marked to vanish also where one of these operations turns its first component round. Where that component
+/// is among those whose entries are marked already, its entry tells it.
+fn marked_entry<R: Rank>(entry: Entry, marked: &[Entry], ops: &[PlainOp]) -> Entry
     requires columns { AllHaveColumns ops.now }
     requires component { entry.first < R.LEN }
+    requires told { entry.first < length marked.now → (vanishes_at marked.now entry.first ≡ true) ↔ ((entry.vanishes ≡ true) ⊎ IsTurned R.R ops.now entry.first) }
     ensures { IsTurnedEntry R.R ops.now entry result }
 {
-    let turned = is_turned::<R>(ops, Comp::at(entry.first as usize));
+    let first = entry.first as usize;
+    let vanishes = if first < marked.len() {
+        marked[first].vanishes
+    } else {
+        entry.vanishes || is_turned::<R>(ops, Comp::at(first))
+    };
     Entry {
         first: entry.first,
         sign: entry.sign,
-        vanishes: entry.vanishes || turned,
+        vanishes,
     }
 }
 
@@ -122,13 +130,14 @@ fn marked_table<R: Rank>(
     group: &Group,
     flags: Flags,
 ) -> Result<Vec<Entry>, NoMemory>
-    requires { (c : ℕ) → c < length table.now → first_at table.now c < R.LEN }
+    requires { AreSettled R.LEN table.now }
     ensures { IfOk result (λ new. AreMarked R.R (marks_of flags) group.now table.now new.items) }
 {
     let ops = diagonal_ops(alloc, group, flags)?;
     let mut marked = Vec::with_capacity(alloc, table.len())?;
     for number in 0..table.len() {
-        marked.push(marked_entry::<R>(table[number], &ops))?;
+        let entry = marked_entry::<R>(table[number], &marked, &ops);
+        marked.push(entry)?;
     }
     Ok(marked)
 }

@@ -2,7 +2,8 @@
 ghost use Rattle.std.specs.Prelude.{◌≡◌, ◌<◌, ◌≤◌, ◌+ℤ◌, OnOk, length, unsigned_abs};
 ghost use Rattle.tensor_rank.specs.Orders.{before_at};
 ghost use Rattle.constraint_rows.specs.Gathering.{AreSmallParts, IsPlaceFor, added, counted_at, part_at_place, unit};
-ghost use Rattle.constraint_rows.specs.WordRows.{AreParts};
+ghost use Rattle.constraint_rows.specs.WordRows.{AreParts, parts_rise};
+ghost use Rattle.tensor_defs.specs.Lists.{IsRising};
 
 use crate::rows::Part;
 use sign_moves::{NoMemory, Sign};
@@ -19,18 +20,18 @@ fn counted(number: i64, sign: Sign) -> i64
     }
 }
 
-/// How many parts, from the first on, come before a component.
+/// How many parts, from the first on, come before a component. Since parts rise, and a component mostly belongs behind
+/// most of them, they are looked at from the last on.
 fn place_for<R: Rank>(parts: &[Part], order: &Order<R>, d: Comp<R>) -> usize
-    requires { AreParts R.LEN parts.now }
+    requires parts { AreParts R.LEN parts.now }
+    requires rising { IsRising (parts_rise (before_at R.R order.now)) parts.now }
     ensures { IsPlaceFor (before_at R.R order.now) d parts.now result }
 {
-    for place in 0..parts.len() {
-        let part = parts[place];
-        if !order.before(Comp::at(part.component as usize), d) {
-            return place;
-        }
+    let mut place = parts.len();
+    while place > 0 && !order.before(Comp::at(parts[place - 1].component as usize), d) {
+        place -= 1;
     }
-    parts.len()
+    place
 }
 
 /// Adds 1 or -1 at the part of a place, and leaves the part out where that gives 0.
@@ -58,7 +59,7 @@ pub(crate) fn add_part<R: Rank>(
     d: Comp<R>,
     sign: Sign,
 ) -> Result<(), NoMemory>
-    requires { AreSmallParts R.LEN 729 parts.old.items }
+    requires { AreSmallParts R.LEN (before_at R.R order.now) 729 parts.old.items }
     ensures { OnOk result (parts.new.items ≡ added (before_at R.R order.now) d (unit sign) parts.old.items) }
 {
     let place = place_for(parts, order, d);

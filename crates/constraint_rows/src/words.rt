@@ -10,7 +10,7 @@ ghost use Rattle.tensor_rank.specs.Orders.{before_at, before_of};
 ghost use Rattle.tensor_rank.specs.Shapes.{IsShapeOf};
 ghost use Rattle.constraint_rows.specs.Choices.{is_chosen, is_turning};
 ghost use Rattle.constraint_rows.specs.Gathering.{AreRowsBelow, AreSmallParts, AreTermsBelow, gathered, term_added, terms_from, turn_sign, word_at};
-ghost use Rattle.constraint_rows.specs.WordRows.{AreSound, AreWordRows, carrier_of};
+ghost use Rattle.constraint_rows.specs.WordRows.{AreParts, AreSound, AreWordRows, carrier_of};
 
 use crate::axis::axis_classes;
 use crate::choosing::{Rotations, is_chosen};
@@ -111,48 +111,53 @@ fn turn_sign(quarters: u8) -> Sign
     }
 }
 
-/// Adds what a component gives to the even (0) or the odd (1) row, at its representative.
+/// Adds what a component gives to the even or the odd row, as its power of i tells, at its representative.
 fn add_term<R: Rank>(
-    parts: &mut Vec<Part>,
+    even: &mut Vec<Part>,
+    odd: &mut Vec<Part>,
     classes: &Classes<R>,
     order: &Order<R>,
     term: Term,
-    parity: u8,
 ) -> Result<(), NoMemory>
     requires component { term.component < R.LEN }
-    requires parts { AreSmallParts R.LEN 729 parts.old.items }
-    ensures { OnOk result (parts.new.items ≡ term_added (before_at R.R order.now) classes.now parity term parts.old.items) }
+    requires even { AreSmallParts R.LEN (before_at R.R order.now) 729 even.old.items }
+    requires odd { AreSmallParts R.LEN (before_at R.R order.now) 729 odd.old.items }
+    ensures even { OnOk result (even.new.items ≡ term_added (before_at R.R order.now) classes.now 0 term even.old.items) }
+    ensures odd { OnOk result (odd.new.items ≡ term_added (before_at R.R order.now) classes.now 1 term odd.old.items) }
 {
-    if term.quarters % 2 != parity {
+    let Some((first, sign)) = classes.of(Comp::at(term.component as usize)) else {
         return Ok(());
-    }
-    match classes.of(Comp::at(term.component as usize)) {
-        None => Ok(()),
-        Some((first, sign)) => {
-            add_part(parts, order, first, times(sign, turn_sign(term.quarters)))
-        }
+    };
+    let sign = times(sign, turn_sign(term.quarters));
+    if term.quarters % 2 == 0 {
+        add_part(even, order, first, sign)
+    } else {
+        add_part(odd, order, first, sign)
     }
 }
 
-/// The even (0) or the odd (1) row of the components that belong to a word.
-fn row_of_terms<R: Rank>(
-    alloc: Global,
-    parts: &mut Vec<Part>,
+/// The parts of the even and of the odd row of the components that belong to a word, in place of what the lists held.
+fn gather<R: Rank>(
+    even: &mut Vec<Part>,
+    odd: &mut Vec<Part>,
     terms: &[Term],
     classes: &Classes<R>,
     order: &Order<R>,
-    parity: u8,
-) -> Result<Row<R>, NoMemory>
+) -> Result<(), NoMemory>
     requires sound { AreSound R.LEN (before_at R.R order.now) classes.now }
     requires below { AreTermsBelow R.LEN terms.now }
     requires few { length terms.now ≤ 729 }
-    ensures { IfOk result (λ row. row ≡ gathered (before_at R.R order.now) classes.now parity terms.now []) }
+    ensures even { OnOk result (even.new.items ≡ gathered (before_at R.R order.now) classes.now 0 terms.now []) }
+    ensures odd { OnOk result (odd.new.items ≡ gathered (before_at R.R order.now) classes.now 1 terms.now []) }
+    ensures even_parts { OnOk result (AreParts R.LEN even.new.items) }
+    ensures odd_parts { OnOk result (AreParts R.LEN odd.new.items) }
 {
-    parts.clear();
+    even.clear();
+    odd.clear();
     for place in 0..terms.len() {
-        add_term(parts, classes, order, terms[place], parity)?;
+        add_term(even, odd, classes, order, terms[place])?;
     }
-    Row::of_parts(alloc, parts)
+    Ok(())
 }
 
 /// Adds the even and the odd row of a word, if it is chosen.
@@ -161,7 +166,8 @@ fn add_word<R: Rank>(
     rotations: Rotations,
     rows: &mut Vec<Row<R>>,
     terms: &mut Vec<Term>,
-    parts: &mut Vec<Part>,
+    even: &mut Vec<Part>,
+    odd: &mut Vec<Part>,
     classes: &Classes<R>,
     order: &Order<R>,
     word: Comp<R>,
@@ -175,8 +181,9 @@ fn add_word<R: Rank>(
     }
     terms.clear();
     list_terms(terms, word, 0, 0, 0)?;
-    rows.push(row_of_terms(alloc, parts, terms, classes, order, 0)?)?;
-    rows.push(row_of_terms(alloc, parts, terms, classes, order, 1)?)?;
+    gather(even, odd, terms, classes, order)?;
+    rows.push(Row::of_parts(alloc, even)?)?;
+    rows.push(Row::of_parts(alloc, odd)?)?;
     Ok(())
 }
 
@@ -192,14 +199,16 @@ fn chosen_rows<R: Rank>(
 {
     let mut rows = Vec::with_capacity(alloc, R::LEN)?;
     let mut terms = Vec::with_capacity(alloc, 64)?;
-    let mut parts = Vec::new(alloc);
+    let mut even = Vec::new(alloc);
+    let mut odd = Vec::new(alloc);
     for number in 0..R::LEN {
         add_word(
             alloc,
             rotations,
             &mut rows,
             &mut terms,
-            &mut parts,
+            &mut even,
+            &mut odd,
             classes,
             order,
             Comp::at(number),

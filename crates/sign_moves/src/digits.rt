@@ -38,10 +38,10 @@ fn joined_step(step: Step, part: Step) -> Step
 }
 
 /// The steps of the components with one index digit more, in place of those that a list held.
-fn spread(row: &[Step], part: &[Step; 3], longer: &mut Vec<Step>)
+fn spread(row: &[Step], part: [Step; 3], longer: &mut Vec<Step>)
     requires room { 3 * length row.now ≤ vec_capacity longer.old }
-    requires small { (j d : ℕ) → j < length row.now → d < 3 → (step_at row.now j).to + (step_at part.now d).to < 65536 }
-    ensures spread { IsSpread row.now part.now longer.new.items }
+    requires small { (j d : ℕ) → j < length row.now → d < 3 → (step_at row.now j).to + (step_at part d).to < 65536 }
+    ensures spread { IsSpread row.now part longer.new.items }
     ensures capacity { vec_capacity longer.new ≡ vec_capacity longer.old }
 {
     longer.clear();
@@ -65,7 +65,7 @@ pub fn digit_row(alloc: Global, parts: &[[Step; 3]], whole: Sign) -> Result<Vec<
     let mut longer = Vec::with_capacity(alloc, room)?;
     row.push(Step { to: 0, sign: whole })?;
     for place in 0..parts.len() {
-        spread(&row, &parts[place], &mut longer);
+        spread(&row, parts[place], &mut longer);
         swap(&mut row, &mut longer);
     }
     Ok(row)

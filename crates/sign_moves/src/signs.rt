@@ -8,9 +8,9 @@ use tensor_defs::Sign;
 pub fn times(one: Sign, other: Sign) -> Sign
     ensures { result ≡ times one other }
 {
-    match (one, other) {
-        (Sign::Plus, sign) => sign,
-        (Sign::Minus, Sign::Plus) => Sign::Minus,
-        (Sign::Minus, Sign::Minus) => Sign::Plus,
+    if one == other {
+        Sign::Plus
+    } else {
+        Sign::Minus
     }
 }

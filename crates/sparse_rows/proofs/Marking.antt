@@ -1,5 +1,6 @@
 -- Marks of the unknowns of a row.
 --   IsMarking, marking-start, marking-step, marking-end    marking one entry after the other
+--   IsPassing, passing-start, passing-step, passing-end    looking at one entry after the other
 --   AreMet, met-less, met-same    a row is 0 at each unknown that isn't marked
 use Rattle.std.proofs.Common.{◌≡◌, ◌≢◌, ℕ, ◌+◌, ◌%◌, ◌<◌, ◌≤◌, Bool, true, false, List, length, get_or, drop, ap, sym, ◌∙◌, refl, subst, arith}
 use Rattle.std.specs.Prelude.{slice_set}
@@ -8,7 +9,7 @@ use Rattle.std.proofs.lemmas.Grind.{get_or-set_at}
 use Rattle.list_laws.proofs.Lists.{drop_head}
 use Rattle.tensor_defs.specs.Number.{Number, add, mul, neg, num_zero}
 use Rattle.sparse_rows.specs.Rows.{coeff, IsDifference}
-use Rattle.sparse_rows.specs.Marks.{AreMarked, is_marked}
+use Rattle.sparse_rows.specs.Marks.{AreMarked, IsAway, is_marked}
 use Rattle.sparse_rows.specs.declared.entry.Entry.{Entry}
 use Rattle.sparse_rows.proofs.Merging.{coeff-tail}
 use Rattle.sparse_rows.proofs.Lines.{minus_none}
@@ -52,6 +53,25 @@ marking-end old row i marks long h m = record {
   kept = m.kept;
   zero = λ u f. m.zero u f ∙ (λ j. coeff (drop_all i row h j) u);
 }
+
+-- the entries before place i aren't marked
+pub record IsPassing (marks : List Bool) (row : List Entry) (i : ℕ) : Type 0 where
+  pub zero : (u : ℕ) → is_marked marks u ≡ true → coeff row u ≡ coeff (drop i row) u
+
+pub passing-start : (marks : List Bool) (row : List Entry) → IsPassing marks row 0
+passing-start marks row = record { zero = λ u e. refl }
+
+pub passing-step : (marks : List Bool) (row : List Entry) (i : ℕ) (x : Entry) → i < length row → x ≡ get_or row i x → is_marked marks x.unknown ≡ false →
+    IsPassing marks row i → IsPassing marks row (i + 1)
+passing-step marks row i x h e f m = record {
+  zero = λ u t.
+      m.zero u t
+      ∙ (λ j. coeff (drop_head row i x h e j) u)
+      ∙ coeff-tail x (drop (i + 1) row) u (λ p. let clash : true ≡ false = sym t ∙ ap (is_marked marks) p ∙ f in cc);
+}
+
+pub passing-end : (marks : List Bool) (row : List Entry) (i : ℕ) → length row ≤ i → IsPassing marks row i → IsAway marks row
+passing-end marks row i h m = record { zero = λ u t. m.zero u t ∙ (λ j. coeff (drop_all i row h j) u) }
 
 -- a row is 0 at each unknown that isn't marked
 pub record AreMet (marks : List Bool) (row : List Entry) : Type 0 where

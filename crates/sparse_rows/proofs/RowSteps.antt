@@ -1,16 +1,16 @@
 -- The steps, row by row.
 --   found-at, found-entry, IsSplit, middle-below, split-start, split-low ..    looking for an unknown
---   IsReducing, reducing-start, line_path, reducing-skip, reducing-zero, reduced-none, reducing-step    reducing
+--   IsReducing, reducing-start, line_path, reducing-skip, reducing-away, reduced-away, reducing-step    reducing
 --   scaling-nonzero, IsScaling, scaling-start, scaling-step, scaling-grows, scaling-same ..    scaling
---   IsClearing, clearing-start, clearing-step, append-none, kepts-snoc, rows-snoc ..    clearing
+--   IsClearing, clearing-start, clearing-step, cleared-away, seen-more, append-none, kepts-snoc, rows-snoc ..    clearing
 --   clearing-at, kept-none, cleared-copy, cleared-less, cleared-grows, reducing-at ..    at places of lists
 --   kept-made, kept-fails, scale-fails    keeping
 --   line-head, given-row, state-at, skip-at, keep-at, keep-fails, state-done    one row more
 --   difference-same, times-same, reduced-same, reducing_same, kept-same, cannot-same, err-same
 --       the same lists under other names
 use Rattle.std.proofs.Common.{length, get_or, drop, drop-cons, add-one, ◌≡◌, ◌≢◌, ℕ, zero, suc, ◌+◌, ◌-◌, ◌/◌, ◌<◌, ◌≤◌, inl, inr, List, [], ◌∷◌, ◌++◌, refl, ap, sym, ◌∙◌, subst, arith}
-use Rattle.std.proofs.lemmas.Bool.{cases_eq, cases_lt}
-use Rattle.std.specs.Prelude.{Result, Ok, Err, IfErr, IsErrAnd}
+use Rattle.std.proofs.lemmas.Bool.{cases_Bool, cases_eq, cases_lt}
+use Rattle.std.specs.Prelude.{Result, Ok, Err, IfErr, IsErrAnd, Bool, false}
 use Rattle.sparse_rows.specs.declared.entry.EliminateFault.{EliminateFault}
 use Rattle.sparse_rows.specs.declared.entry.EliminateFault.TheVariants.{TooLarge}
 use Rattle.std.proofs.Math.ListN.{drop_of_length-le}
@@ -22,8 +22,10 @@ use Rattle.tensor_defs.specs.Number.{Number, add, mul, num_zero, ReachesLimit, v
 use Rattle.number_laws.proofs.NumberLaws.{num_add-zero, num_zero-add, num_zero-mul, num_add-mul, num_mul_comm, num_add_assoc}
 use Rattle.tensor_defs.specs.Elimination.{Line, Kept, less, reduced, cleared, TimesGrows, ReducingGrows, LessGrows, ClearingGrows, LineGrows, GrowsFrom}
 use Rattle.tensor_defs.specs.Lists.{Each}
-use Rattle.sparse_rows.specs.Solutions.{scaled_by, IsPivot}
-use Rattle.sparse_rows.proofs.Lines.{less-zero, undo, kept_same}
+use Rattle.sparse_rows.specs.Solutions.{scaled_by, IsLeading, IsPivot}
+use Rattle.sparse_rows.specs.Marks.{AreMarked, AreSeen, IsAway, is_marked}
+use Rattle.number_laws.proofs.Sameness.{one_not_zero}
+use Rattle.sparse_rows.proofs.Lines.{less-none, less-zero, reduced-keeps, undo, kept_same}
 use Rattle.exact_frac.specs.Held.{inverse_of, IsHeld}
 use Rattle.exact_frac.proofs.Parts.{inverse-mul}
 use Rattle.sparse_rows.specs.Rows.{part, coeff, Above, IsEntry, IsRow, IsDifference}
@@ -141,16 +143,28 @@ reducing-skip κs0 ρ0 κ κs ρ s z =
       from = λ g. s.from (inr (subst (ReducingGrows κs) (sym e) g));
     }
 
--- a row that is 0 stays as it is
-pub reducing-zero : (κs0 : List Kept) (ρ0 : Line) (κs : List Kept) (ρ : Line) → IsReducing κs0 ρ0 κs ρ → ((u : ℕ) → ρ u ≡ num_zero) → IsReducing κs0 ρ0 [] ρ
-reducing-zero κs0 ρ0 [] ρ s z = s
-reducing-zero κs0 ρ0 (κ ∷ κs) ρ s z = reducing-zero κs0 ρ0 κs ρ (reducing-skip κs0 ρ0 κ κs ρ s (z κ.pivot)) z
+-- a row that is 0 at each pivot stays as it is
+pub reducing-away : (κs0 : List Kept) (ρ0 : Line) (κs : List Kept) (ρ : Line) → IsReducing κs0 ρ0 κs ρ → Each (λ κ. ρ κ.pivot ≡ num_zero) κs → IsReducing κs0 ρ0 [] ρ
+reducing-away κs0 ρ0 [] ρ s z = s
+reducing-away κs0 ρ0 (κ ∷ κs) ρ s z = reducing-away κs0 ρ0 κs ρ (reducing-skip κs0 ρ0 κ κs ρ s z.0) z.1
 
-pub reduced-none : (κs : List Kept) (xs new : List Entry) → length xs ≡ 0 → new ≡ xs → IsReducedRow κs (coeff xs) new
-reduced-none κs [] new h e =
-    let r = reducing-zero κs (coeff []) κs (coeff []) (reducing-start κs (coeff [])) (λ u. refl) in
-    subst (IsReducedRow κs (coeff [])) (sym e) (record { is_row = tt; same = r.same; calm = r.then })
-reduced-none κs (x ∷ xs) new h e = absurd (omega arith)
+-- so does a row that has no unknown of kept rows
+away-pivots : (marks : List Bool) (row : List Entry) (κs : List Kept) → IsAway marks row → Each IsLeading κs →
+    ((u : ℕ) → is_marked marks u ≡ false → Each (λ κ. κ.line u ≡ num_zero) κs) → Each (λ κ. coeff row κ.pivot ≡ num_zero) κs
+away-pivots marks row [] a l z = tt
+away-pivots marks row (κ ∷ κs) a l z = (
+  elim (cases_Bool (is_marked marks κ.pivot)) as (λ _. coeff row κ.pivot ≡ num_zero) [
+    | inl t ↦ a.zero κ.pivot t
+    | inr f ↦ absurd (one_not_zero (sym l.0.own ∙ (z κ.pivot f).0))
+  ],
+  away-pivots marks row κs a l.1 (λ u f. (z u f).1),
+)
+
+pub reduced-away : (marks : List Bool) (κs : List Kept) (row new : List Entry) → AreSeen marks κs → Each IsLeading κs → IsAway marks row →
+    IsRow row → new ≡ row → IsReducedRow κs (coeff row) new
+reduced-away marks κs row new s l a r e =
+    let m = reducing-away κs (coeff row) κs (coeff row) (reducing-start κs (coeff row)) (away-pivots marks row κs a l s.zero) in
+    subst (IsReducedRow κs (coeff row)) (sym e) (record { is_row = r; same = m.same; calm = m.then })
 
 pub reducing-step : (κs0 : List Kept) (ρ0 : Line) (κ : Kept) (κs : List Kept) (ρ σ : Line) → IsReducing κs0 ρ0 (κ ∷ κs) ρ → σ ≡ less ρ κ → (LessGrows ρ κ → ⊥) → IsReducing κs0 ρ0 κs σ
 reducing-step κs0 ρ0 κ κs ρ σ s e calm = record {
@@ -254,6 +268,44 @@ clearing-step new κs0 κs1 κ κs k s c = record {
   ];
   from = λ g. s.from (inr g);
 }
+
+-- where no kept row has the pivot, all stay as they are
+away-cleared : (new : Kept) (κs : List Kept) → Each (λ κ. κ.line new.pivot ≡ num_zero) κs → (cleared new κs ≡ κs) × (ClearingGrows new κs → ⊥)
+away-cleared new [] z = (refl, λ g. g)
+away-cleared new (κ ∷ κs) z =
+    let rest = away-cleared new κs z.1 in
+    let own : record { pivot = κ.pivot; line = less κ.line new } ≡ κ = kept_same (record { pivot = κ.pivot; line = less κ.line new }) κ refl (λ u. less-zero κ.line new u z.0) in (
+      (λ i. own i ∷ rest.0 i),
+      λ g. elim g [
+        | inl h ↦ h.0 z.0
+        | inr h ↦ rest.1 h
+      ],
+    )
+
+pub cleared-away : (marks : List Bool) (new : Kept) (ks : List KeptRow) → AreSeen marks (kepts ks) → AreRows ks → is_marked marks new.pivot ≡ false → AreCleared new (kepts ks) ks
+cleared-away marks new ks s r f =
+    let a = away-cleared new (kepts ks) (s.zero new.pivot f) in
+    record { are_rows = r; same = sym a.0; calm = a.1 }
+
+-- one kept row more, whose row is marked
+seen-cleared : (new : Kept) (u : ℕ) → new.line u ≡ num_zero → (κs : List Kept) → Each (λ κ. κ.line u ≡ num_zero) κs → Each (λ κ. κ.line u ≡ num_zero) (cleared new κs)
+seen-cleared new u e [] z = tt
+seen-cleared new u e (κ ∷ κs) z = (less-none κ.line new u e ∙ z.0, seen-cleared new u e κs z.1)
+
+pub seen-more : (old marks : List Bool) (κs : List Kept) (row left : List Entry) (ks : List KeptRow) → AreSeen old κs → AreMarked old row marks →
+    IsReducedRow κs (coeff row) left → IsKeptRow κs (coeff left) ks → AreSeen marks (kepts ks)
+seen-more old marks κs row left ks s m d k = record {
+  len = m.len ∙ s.len;
+  zero = λ u f.
+      let z = s.zero u (m.kept u f) in
+      let zero : coeff left u ≡ num_zero = (λ i. d.same i u) ∙ reduced-keeps κs (coeff row) u (m.zero u f) z in
+      let new = scaled_by (coeff left) k.place k.inverse in
+      let none : new.line u ≡ num_zero = ap (λ x. mul x k.inverse) zero ∙ num_zero-mul k.inverse in
+      subst (Each (λ κ. κ.line u ≡ num_zero)) (sym k.same) (each_push (λ κ. κ.line u ≡ num_zero) (cleared new κs) new (seen-cleared new u none κs z) none);
+}
+
+pub seen-same : (marks marks' : List Bool) (ks ks' : List KeptRow) → marks' ≡ marks → ks' ≡ ks → AreSeen marks (kepts ks) → AreSeen marks' (kepts ks')
+seen-same marks marks' ks ks' e p s = subst (λ x. AreSeen x (kepts ks')) (sym e) (subst (λ l. AreSeen marks (kepts l)) (sym p) s)
 
 pub append-none : (κs : List Kept) → κs ++ [] ≡ κs
 append-none [] = refl

@@ -1,10 +1,12 @@
 //! The elimination.
 ghost use Rattle.std.specs.Prelude.{◌≡◌, ◌<◌, IfOk, IfErr, [], length};
 ghost use Rattle.tensor_defs.specs.Elimination.{GrowsFrom};
+ghost use Rattle.sparse_rows.specs.Marks.{AreSeen};
 ghost use Rattle.sparse_rows.specs.Rows.{coeff, IsRow};
 ghost use Rattle.sparse_rows.specs.KeptRows.{kepts, AreRows, AreGivenRows, lines, IsEliminated, IsKeptRow, CannotKeep};
 
 use crate::entry::{EliminateFault, Entry, KeptRow, Row};
+use crate::marks::mark_all;
 use crate::steps::{clear_all, put_row, reduce_row, scale};
 use std::alloc::Global;
 
@@ -14,16 +16,18 @@ fn keep(
     kept: Vec<KeptRow>,
     left: &[Entry],
     spare: &mut Vec<Entry>,
+    seen: &[bool],
 ) -> Result<Vec<KeptRow>, EliminateFault>
     requires kept { AreRows kept.items }
     requires row { IsRow left.now }
     requires some { 0 < length left.now }
+    requires seen { AreSeen seen.now (kepts kept.items) }
     ensures kept { IfOk result (λ v. IsKeptRow (kepts kept.items) (coeff left.now) v.items) }
     ensures grows { IfErr result (λ e. e ≡ EliminateFault.TooLarge → CannotKeep (kepts kept.items) (coeff left.now)) }
 {
     let new = scale(alloc, left)?;
     let mut next = kept;
-    clear_all(spare, &mut next, &new)?;
+    clear_all(spare, &mut next, &new, seen)?;
     put_row(&mut next, new)?;
     Ok(next)
 }
@@ -42,10 +46,12 @@ pub fn eliminate(alloc: Global, rows: &[Row]) -> Result<Vec<KeptRow>, EliminateF
     };
     let mut left = Vec::new(alloc);
     let mut spare = Vec::new(alloc);
+    let mut seen = [false; 512];
     for row in rows {
-        reduce_row(&mut left, &mut spare, &row.entries, &kept)?;
+        reduce_row(&mut left, &mut spare, &row.entries, &kept, &seen)?;
         if left.len() > 0 {
-            kept = keep(alloc, kept, &left, &mut spare)?;
+            kept = keep(alloc, kept, &left, &mut spare, &seen)?;
+            mark_all(&mut seen, &row.entries);
         }
     }
     Ok(kept)

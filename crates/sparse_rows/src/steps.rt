@@ -3,11 +3,14 @@ ghost use Rattle.std.specs.Prelude.{◌≡◌, ◌≢◌, ◌<◌, IfOk, OnOk, I
 ghost use Rattle.tensor_defs.specs.Number.{mul, num_zero, ReachesLimit, value_of};
 ghost use Rattle.tensor_defs.specs.Elimination.{ReducingGrows, ClearingGrows, LessGrows};
 ghost use Rattle.exact_frac.specs.Held.{inverse_of, IsHeldAs};
+ghost use Rattle.tensor_defs.specs.Lists.{Each};
+ghost use Rattle.sparse_rows.specs.Marks.{AreSeen};
 ghost use Rattle.sparse_rows.specs.Rows.{coeff, IsRow};
+ghost use Rattle.sparse_rows.specs.Solutions.{IsLeading};
 ghost use Rattle.sparse_rows.specs.KeptRows.{kept_of, kepts, AreRows, IsFound, IsReducedRow, IsScaledRow, CannotScale, IsClearedRow, AreCleared};
 
 use crate::entry::{EliminateFault, Entry, KeptRow};
-use crate::marks::{is_marked, mark_all};
+use crate::marks::{is_marked, mark_all, meets};
 use crate::merge::{put, room_for, subtract};
 use exact_frac::Frac;
 use std::alloc::Global;
@@ -66,20 +69,23 @@ pub fn copy_to(out: &mut Vec<Entry>, row: &[Entry]) -> Result<(), EliminateFault
 }
 
 /// The row, less what each kept row takes away, in place of what a list held. Only those are looked at whose pivot the
-/// row may have.
+/// row may have, and none where the row has no unknown of kept rows.
 pub fn reduce_row(
     left: &mut Vec<Entry>,
     spare: &mut Vec<Entry>,
     row: &[Entry],
     kept: &[KeptRow],
+    seen: &[bool],
 ) -> Result<(), EliminateFault>
     requires row { IsRow row.now }
     requires kept { AreRows kept.now }
+    requires leading { Each IsLeading (kepts kept.now) }
+    requires seen { AreSeen seen.now (kepts kept.now) }
     ensures reduced { OnOk result (IsReducedRow (kepts kept.now) (coeff row.now) left.new.items) }
     ensures grows { IfErr result (λ e. e ≡ EliminateFault.TooLarge → ReducingGrows (kepts kept.now) (coeff row.now)) }
 {
     copy_to(left, row)?;
-    if row.is_empty() {
+    if !meets(seen, row) {
         return Ok(());
     }
     let mut marks = [false; 512];
@@ -158,17 +164,22 @@ pub fn put_row(out: &mut Vec<KeptRow>, row: KeptRow) -> Result<(), EliminateFaul
     }
 }
 
-/// All kept rows, less what the new row takes away. After an error some may be changed.
+/// All kept rows, less what the new row takes away: nothing where none has its pivot. After an error some may be changed.
 pub fn clear_all(
     spare: &mut Vec<Entry>,
     kept: &mut Vec<KeptRow>,
     new: &KeptRow,
+    seen: &[bool],
 ) -> Result<(), EliminateFault>
     requires kept { AreRows kept.old.items }
+    requires seen { AreSeen seen.now (kepts kept.old.items) }
     requires new { IsRow new.now.entries.items }
     ensures cleared { OnOk result (AreCleared (kept_of new.now) (kepts kept.old.items) kept.new.items) }
     ensures grows { IfErr result (λ e. e ≡ EliminateFault.TooLarge → ClearingGrows (kept_of new.now) (kepts kept.old.items)) }
 {
+    if !is_marked(seen, new.pivot) {
+        return Ok(());
+    }
     for place in 0..kept.len() {
         let row = &mut kept[place];
         clear_one(spare, row, new)?;

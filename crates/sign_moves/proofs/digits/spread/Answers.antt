@@ -19,6 +19,6 @@ loop-j-preserved c =
       len = omega arith;
       long = omega (arith, c.loop-j.invariant.long, c.push_reserved.ensures.len, c.push_reserved-in-loop-j.ensures.len, c.push_reserved-in-loop-j-2.ensures.len);
       capacity = c.push_reserved-in-loop-j-2.ensures.capacity ∙ c.push_reserved-in-loop-j.ensures.capacity ∙ c.push_reserved.ensures.capacity ∙ c.loop-j.invariant.capacity;
-      each = subst (λ (xs : List Step). (i d : ℕ) → i < c.loop-j.j + 1 → d < 3 → step_at xs (3 * i + d) ≡ joined_step (step_at c.args.row.now i) (step_at c.args.part.now d)) (sym items)
-          (spread_more c.args.row.now c.args.part.now old c.loop-j.j x y z before c.loop-j.invariant.each c.joined_step.ensures c.joined_step-in-loop-j.ensures c.joined_step-in-loop-j-2.ensures);
+      each = subst (λ (xs : List Step). (i d : ℕ) → i < c.loop-j.j + 1 → d < 3 → step_at xs (3 * i + d) ≡ joined_step (step_at c.args.row.now i) (step_at c.args.part d)) (sym items)
+          (spread_more c.args.row.now c.args.part old c.loop-j.j x y z before c.loop-j.invariant.each c.joined_step.ensures c.joined_step-in-loop-j.ensures c.joined_step-in-loop-j-2.ensures);
     }

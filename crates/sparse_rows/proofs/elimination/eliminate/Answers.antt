@@ -1,8 +1,10 @@
-use Rattle.std.proofs.Common.{◌≡◌, ◌<◌, ◌+◌, refl, sym, subst, length, drop, arith}
+use Rattle.std.proofs.Common.{◌≡◌, ◌<◌, ◌+◌, List, refl, sym, subst, length, drop, arith}
 use Rattle.sparse_rows.specs.Rows.{coeff}
 use Rattle.sparse_rows.specs.KeptRows.{kepts, lines, AreRows}
+use Rattle.sparse_rows.specs.Marks.{AreMarked}
+use Rattle.sparse_rows.specs.declared.entry.Entry.{Entry}
 use Rattle.sparse_rows.proofs.Lines.{IsState, grows-reducing}
-use Rattle.sparse_rows.proofs.RowSteps.{state-at, skip-at, keep-at, keep-fails, state-done, reduced-same, reducing_same, kept-same, cannot-same, err-same}
+use Rattle.sparse_rows.proofs.RowSteps.{state-at, skip-at, keep-at, keep-fails, state-done, reduced-same, reducing_same, seen-more, seen-same, kept-same, cannot-same, err-same}
 use Rattle.sparse_rows.proofs.elimination.eliminate.Goals as goal
 use Rattle.sparse_rows.proofs.elimination.eliminate.Goals.{then-len-gt0+in_ok-kept, else-len-gt0}
 
@@ -38,13 +40,22 @@ loop-row-preserved c =
     elim c.if-len-gt0.branch [
       | then-len-gt0+in_ok-kept w ↦
           let k = kept-same c.loop-row.kept.items _ _ c.if-len-gt0.kept.items _ _ refl w.deref-then-len-gt0.ensures.value (λ j. (w.kept-is j).items) w.in_ok-kept.ensures.kept in
-          (keep-at (lines rs) (kepts c.loop-row.kept.items) (coeff r.entries.items) (lines (drop (i + 1) rs)) c.reduce_row.new.left.items c.if-len-gt0.kept.items s d k, k.are_rows, (omega (arith, h)))
+          let m : AreMarked c.loop-row.seen r.entries.items w.mark_all.new.marks =
+          subst (λ (x : List Entry). AreMarked c.loop-row.seen x w.mark_all.new.marks) w.deref-then-len-gt0-2.ensures.value w.mark_all.ensures in (
+            keep-at (lines rs) (kepts c.loop-row.kept.items) (coeff r.entries.items) (lines (drop (i + 1) rs)) c.reduce_row.new.left.items c.if-len-gt0.kept.items s d k,
+            k.are_rows,
+            (omega (arith, h)),
+            seen-same w.mark_all.new.marks c.if-len-gt0.seen c.if-len-gt0.kept.items c.if-len-gt0.kept.items w.seen-is refl
+                (seen-more c.loop-row.seen w.mark_all.new.marks (kepts c.loop-row.kept.items) r.entries.items c.reduce_row.new.left.items c.if-len-gt0.kept.items
+                c.loop-row.invariant.3 m d k),
+          )
       | else-len-gt0 w ↦
           let e : c.if-len-gt0.kept.items ≡ c.loop-row.kept.items = λ j. (w.kept-is j).items in
           let z : length c.reduce_row.new.left.items ≡ 0 = let q = w.if-len-gt0.false in let l = c.len.ensures in omega (arith, q, l) in (
             subst (λ l. IsState (lines rs) (kepts l) (lines (drop (i + 1) rs))) (sym e) (skip-at (lines rs) (kepts c.loop-row.kept.items) (coeff r.entries.items) (lines (drop (i + 1) rs)) c.reduce_row.new.left.items s d z),
             subst AreRows (sym e) c.loop-row.invariant.1,
             (omega (arith, h)),
+            seen-same c.loop-row.seen c.if-len-gt0.seen c.loop-row.kept.items c.if-len-gt0.kept.items w.seen-is e c.loop-row.invariant.3,
           )
     ]
 

@@ -1,18 +1,30 @@
 use Rattle.std.proofs.Common.{◌≡◌, ◌∙◌, ◌<◌, ◌+◌, ap, sym, subst, length, drop, false, arith}
-use Rattle.std.proofs.lemmas.Bool.{eqb-true}
 use Rattle.tensor_defs.specs.Number.{value_of}
 use Rattle.sparse_rows.specs.Rows.{coeff, IsRow}
 use Rattle.sparse_rows.specs.Marks.{is_marked}
 use Rattle.sparse_rows.specs.KeptRows.{kept_of, kepts, IsFound}
 use Rattle.sparse_rows.proofs.Marking.{met-less, met-same}
-use Rattle.sparse_rows.proofs.RowSteps.{IsReducing, reduced-none, reducing-at, reducing-skip, reducing-less, difference-same}
+use Rattle.sparse_rows.proofs.RowSteps.{IsReducing, err-same, reduced-away, reducing-at, reducing-grows, times-same, reducing-skip, reducing-less, difference-same}
 use Rattle.sparse_rows.proofs.steps.reduce_row.Goals as goal
 use Rattle.sparse_rows.proofs.steps.reduce_row.Goals.{then-is_marked+in-Some+in_ok-subtract, then-is_marked+in_default, else-is_marked}
 
-pub returns-then-is_empty-clause-reduced : goal.returns-then-is_empty-clause-reduced
-returns-then-is_empty-clause-reduced c =
-    let none : length c.args.row.now ≡ 0 = eqb-true (length c.args.row.now) 0 (sym c.is_empty.ensures ∙ c.if-is_empty.true) in
-    reduced-none (kepts c.args.kept.now) c.args.row.now c.copy_to.new.out.items none c.in_ok-copy_to.ensures.copied
+pub returns-then-not-meets-clause-reduced : goal.returns-then-not-meets-clause-reduced
+returns-then-not-meets-clause-reduced c =
+    reduced-away c.args.seen.now (kepts c.args.kept.now) c.args.row.now c.copy_to.new.out.items c.requires.seen c.requires.leading
+    (c.meets.ensures c.if-not-meets.true) c.requires.row c.in_ok-copy_to.ensures.copied
+
+pub returns-in_err-subtract-clause-grows : goal.returns-in_err-subtract-clause-grows
+returns-in_err-subtract-clause-grows c =
+    let ks = c.args.kept.now in
+    let i = c.loop-k.k-index in
+    let k = c.k-item.result in
+    let f = value_of c.in-Some.factor in
+    let found = subst (IsFound (coeff c.deref.result.now k.pivot)) c.in-Some.is c.find.ensures in
+    let line : coeff c.deref.result.now k.pivot ≡ coeff c.loop-k.left.items k.pivot = λ j. coeff (c.deref.ensures.value j) k.pivot in
+    err-same c.from_residual-in_err-subtract.result c.in_err-subtract.field-0.0 c.from_residual-in_err-subtract.ensures.1
+    (λ p. reducing-grows ks (coeff c.args.row.now) (coeff c.loop-k.left.items) i k f c.loop-k.invariant.0 c.loop-k-test.true c.k-item.is
+    (sym found.0.same ∙ line) (λ z. found.1 (line ∙ z))
+    (times-same _ _ _ _ f c.deref-in-Some.ensures.value c.deref-in-Some-2.ensures.value (c.in_err-subtract.ensures.grows p)))
 
 pub loop-k-preserved : goal.loop-k-preserved
 loop-k-preserved c =
