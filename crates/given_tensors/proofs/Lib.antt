@@ -1,3 +1,4 @@
 pub mod Symmetric
 pub mod Kept
 pub mod Judged
+pub mod Alike
