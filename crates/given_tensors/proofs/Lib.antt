@@ -1,3 +1,4 @@
+pub mod Signed
 pub mod Symmetric
 pub mod Kept
 pub mod Judged

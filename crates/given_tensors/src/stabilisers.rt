@@ -5,7 +5,7 @@ ghost use Rattle.tensor_defs.specs.OperationOrder.{comes_before};
 ghost use Rattle.magnetic_groups.specs.Sets.{FitsFrame};
 ghost use Rattle.tensor_rank.specs.Flags.{marks_of};
 ghost use Rattle.tensor_action.specs.Acting.{ActGrows, tensor_of};
-ghost use Rattle.given_tensors.specs.Carried.{AreCarried};
+ghost use Rattle.given_tensors.specs.Carried.{AreCarried, even_marks};
 ghost use Rattle.given_tensors.specs.Stabilisers.{Stabilises, StabiliserGrows};
 ghost use Rattle.given_tensors.specs.Grown.{IsGrown, IsStep, SomeGrows, StaysSame};
 
@@ -41,8 +41,8 @@ fn with_left<R: Rank>(
 ) -> Result<Group, ActFault>
     requires size { length t.now ≡ R.LEN }
     requires frame { FitsFrame kept op.now }
-    requires carried { AreCarried (marks_of flags) R.R R.LEN t.now carried.old.items }
-    ensures carried { IfOk result (λ _. AreCarried (marks_of flags) R.R R.LEN t.now carried.new.items) }
+    requires carried { AreCarried (even_marks R.R) R.R R.LEN t.now carried.old.items }
+    ensures carried { IfOk result (λ _. AreCarried (even_marks R.R) R.R R.LEN t.now carried.new.items) }
     ensures step { IfOk result (IsStep (marks_of flags) R.R (tensor_of t.now) kept op.now) }
     ensures calm { IfOk result (λ _. ActGrows (marks_of flags) op.now R.R (tensor_of t.now) → ⊥) }
     ensures grows { IfErr result (λ e. e ≡ ActFault.TooLarge → ActGrows (marks_of flags) op.now R.R (tensor_of t.now)) }

@@ -2,7 +2,7 @@ use Rattle.std.proofs.Common.{◌≡◌, length, sym, subst, arith}
 use Rattle.tensor_defs.specs.Operation.{identity}
 use Rattle.tensor_rank.specs.Flags.{marks_of}
 use Rattle.tensor_action.specs.Acting.{tensor_of}
-use Rattle.given_tensors.specs.Carried.{AreCarried}
+use Rattle.given_tensors.specs.Carried.{AreCarried, even_marks}
 use Rattle.given_tensors.proofs.Kept.{fits, kept_calm, kept_listing, kept_start, kept_step}
 use Rattle.given_tensors.proofs.stabilisers.elements_left.Goals as goal
 
@@ -10,7 +10,7 @@ pub loop-place-init : goal.loop-place-init
 loop-place-init g c = (
   kept_start (marks_of c.args.flags) g.R.Rank.R (tensor_of c.args.t.now) c.args.all.now c.len-place-end.ensures.group c.in-Ok.group
       c.in-Ok.ensures,
-  subst (AreCarried (marks_of c.args.flags) g.R.Rank.R g.R.Rank.LEN c.args.t.now) (sym c.new-carried.ensures.items) tt,
+  subst (AreCarried (even_marks g.R.Rank.R) g.R.Rank.R g.R.Rank.LEN c.args.t.now) (sym c.new-carried.ensures.items) tt,
 )
 
 pub with_left-requires-clause-frame : goal.with_left-requires-clause-frame

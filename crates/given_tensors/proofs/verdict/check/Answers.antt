@@ -2,7 +2,7 @@ use Rattle.std.proofs.Common.{◌∙◌, ◌<◌, ◌≤◌, length, sym, subst,
 use Rattle.tensor_defs.specs.Operation.{identity}
 use Rattle.tensor_rank.specs.Flags.{marks_of}
 use Rattle.tensor_action.specs.Acting.{tensor_of}
-use Rattle.given_tensors.specs.Carried.{AreCarried}
+use Rattle.given_tensors.specs.Carried.{AreCarried, even_marks}
 use Rattle.given_tensors.proofs.Judged.{all_calm, checked_grows, checked_more, checked_none, invariant_end, not_broken, refuted_calm, refuted_not}
 use Rattle.given_tensors.proofs.verdict.check.Goals as goal
 
@@ -34,7 +34,7 @@ returns-in-Err-clause-grows g c = λ large j is.
 pub loop-place-init : goal.loop-place-init
 loop-place-init g c = (
   checked_none (marks_of c.flags-flags.result) g.R.Rank.R (tensor_of c.args.t.now) c.args.group.now,
-  subst (AreCarried (marks_of c.flags-flags.result) g.R.Rank.R g.R.Rank.LEN c.args.t.now) (sym c.new-carried.ensures.items) tt,
+  subst (AreCarried (even_marks g.R.Rank.R) g.R.Rank.R g.R.Rank.LEN c.args.t.now) (sym c.new-carried.ensures.items) tt,
 )
 
 pub loop-place-preserved : goal.loop-place-preserved
