@@ -1,6 +1,6 @@
 -- Where factors with a sign grow, and what they carry a tensor to.
---   grows_signed    growth does not depend on the sign
---   factor_marks    the factors under two lists of marks are the same but for a sign
+--   grows_marks     growth under one list of marks is growth under another
+--   factor_marks    the factors under the two are the same but for a sign
 --   act_marks       so are the components of the carried tensor
 use Rattle.std.proofs.Common.{◌≡◌, ℕ, ◌⊎◌, inl, inr, List, [], ◌∷◌, length, refl, ap, sym, ◌∙◌, subst, take}
 use lib.IntN.{pos, negsuc, neg_ℤ}
