@@ -8,44 +8,62 @@ use Rattle.std.specs.Prelude.{Contains, Option, Some, None, MatchOption}
 use Rattle.std.proofs.lemmas.Bool.{cases_lt}
 use Rattle.list_laws.proofs.Lists.{held_place}
 use Rattle.tensor_defs.specs.Jahn.{JahnSymbol, rank, HasSymmetry, IsInvariant}
-use Rattle.tensor_defs.specs.Number.{Root3}
+use Rattle.tensor_defs.specs.Number.{Number, Root3, num_one}
 use Rattle.tensor_defs.specs.Operation.{Operation, identity}
-use Rattle.tensor_defs.specs.Tensor.{Tensor, Marks, act, component_number, index_of}
+use Rattle.tensor_defs.specs.Tensor.{Tensor, Marks, act, component_number, index_of, sign}
+use Rattle.tensor_defs.specs.declared.Sign.{Sign}
 use Rattle.tensor_laws.proofs.ComponentNumbers.{length-index_of}
 use Rattle.root3_num.specs.Roots.{value_of_root}
+use Rattle.sign_moves.specs.Signs.{signed, times, times_self}
+use Rattle.sign_moves.proofs.SignLaws.{signed-signed}
 use Rattle.tensor_rank.specs.IndexLaws.{index_number_at, component_below_at}
 use Rattle.magnetic_groups.specs.Sets.{In}
 use Rattle.tensor_action.specs.Acting.{ActGrows, IsCarriedList, tensor_of, zero_root}
 use Rattle.given_tensors.specs.Lists.{AreSame, IsFirstApart}
 use Rattle.given_tensors.specs.Verdicts.{CheckGrows, IsFirstBroken, IsFirstChanged, IsLeftSame, IsRefuting, element}
+use Rattle.given_tensors.proofs.Signed.{act_marks}
 use Rattle.given_tensors.proofs.Symmetric.{symmetric_follows}
 
 pub not_broken : (j : JahnSymbol) (r n : ℕ) (t : Tensor) (c : ℕ) → IsFirstBroken j r n t c → HasSymmetry j t → ⊥
 not_broken j r n t c b h = b.broken.broken (symmetric_follows j r t h c b.broken.class b.broken.told)
 
 -- ---- from lists to components
-module _ (m : Marks) (g : Operation) (r n : ℕ) (rs vs : List Root3) (size : n ≡ 3 ^ r) (carried : IsCarriedList m g r n rs vs)
-    (number : (c : ℕ) → c < n → component_number (index_of r c) ≡ c) where
+module _ (m p : Marks) (g : Operation) (a b : Sign) (e : sign m g ≡ signed a num_one) (f : sign p g ≡ signed b num_one)
+    (r n : ℕ) (rs vs : List Root3) (size : n ≡ 3 ^ r) (carried : IsCarriedList p g r n rs vs)
+    (number : (c : ℕ) → c < n → component_number (index_of r c) ≡ c) (s : Sign) (sign_is : s ≡ times b a) where
   given_at : (c : ℕ) → c < n → value_of_root (get_or rs c zero_root) ≡ tensor_of rs (index_of r c)
   given_at c h = ap (λ k. value_of_root (get_or rs k zero_root)) (sym (number c h))
 
-  same_told : AreSame n vs rs → IsLeftSame m r (tensor_of rs) g
+  back : (x : Number) → signed s (signed s x) ≡ x
+  back x = signed-signed s s x ∙ ap (λ u. signed u x) (times_self s)
+
+  own_at : (c : ℕ) → c < n → act m g (tensor_of rs) (index_of r c) ≡ signed s (value_of_root (get_or vs c zero_root))
+  own_at c h =
+      act_marks m p g a b e f (tensor_of rs) (index_of r c)
+      ∙ (λ i. signed (sym sign_is i) (sym (carried.each c h) i))
+
+  same_at : (c : ℕ) → c < n → value_of_root (get_or vs c zero_root) ≡ signed s (value_of_root (get_or rs c zero_root)) →
+      act m g (tensor_of rs) (index_of r c) ≡ tensor_of rs (index_of r c)
+  same_at c h same = own_at c h ∙ ap (signed s) same ∙ back (value_of_root (get_or rs c zero_root)) ∙ given_at c h
+
+  same_told : AreSame n s vs rs → IsLeftSame m r (tensor_of rs) g
   same_told same is l =
       let c : ℕ = component_number is in
       let below : c < n = subst (λ k. c < k) (sym size) (component_below_at r is l) in
-      subst (λ i. act m g (tensor_of rs) i ≡ tensor_of rs i) (index_number_at r is l)
-      (sym (carried.each c below) ∙ same c below ∙ given_at c below)
+      subst (λ i. act m g (tensor_of rs) i ≡ tensor_of rs i) (index_number_at r is l) (same_at c below (same c below))
 
-  apart_told : (c : ℕ) → IsFirstApart n vs rs c → IsFirstChanged m r n (tensor_of rs) g c
-  apart_told c a = record {
-    below = a.below;
-    changed = λ e. a.differ (carried.each c a.below ∙ e ∙ sym (given_at c a.below));
+  apart_told : (c : ℕ) → IsFirstApart n s vs rs c → IsFirstChanged m r n (tensor_of rs) g c
+  apart_told c x = record {
+    below = x.below;
+    changed = λ is. x.differ
+        (sym (back (value_of_root (get_or vs c zero_root)))
+        ∙ ap (signed s) (sym (own_at c x.below) ∙ is ∙ sym (given_at c x.below)));
     earlier = λ d h.
-        let below : d < n = let b = a.below in omega arith in
-        sym (carried.each d below) ∙ a.earlier d h ∙ given_at d below;
+        let below : d < n = let b = x.below in omega arith in
+        same_at d below (x.earlier d h);
   }
 
-  pub act_told : (o : Option ℕ) → MatchOption o (AreSame n vs rs) (IsFirstApart n vs rs) →
+  pub act_told : (o : Option ℕ) → MatchOption o (AreSame n s vs rs) (IsFirstApart n s vs rs) →
       MatchOption o (IsLeftSame m r (tensor_of rs) g) (IsFirstChanged m r n (tensor_of rs) g)
   act_told None h = same_told h
   act_told (Some c) h = apart_told c h

@@ -1,3 +1,5 @@
+pub mod Signed
 pub mod Symmetric
 pub mod Kept
 pub mod Judged
+pub mod Alike

@@ -3,3 +3,4 @@ pub mod Verdicts
 pub mod Wholes
 pub mod Stabilisers
 pub mod Grown
+pub mod Carried

@@ -3,6 +3,7 @@
 //! Crystallography D 1.1.
 #![tactic(auto)]
 
+mod carried;
 mod changes;
 mod stabilisers;
 mod symmetry;

@@ -5,9 +5,11 @@ ghost use Rattle.tensor_defs.specs.OperationOrder.{comes_before};
 ghost use Rattle.magnetic_groups.specs.Sets.{FitsFrame};
 ghost use Rattle.tensor_rank.specs.Flags.{marks_of};
 ghost use Rattle.tensor_action.specs.Acting.{ActGrows, tensor_of};
+ghost use Rattle.given_tensors.specs.Carried.{AreCarried, even_marks};
 ghost use Rattle.given_tensors.specs.Stabilisers.{Stabilises, StabiliserGrows};
 ghost use Rattle.given_tensors.specs.Grown.{IsGrown, IsStep, SomeGrows, StaysSame};
 
+use crate::carried::Carried;
 use crate::changes::first_changed;
 use crate::wholes::{Whole, whole_group};
 use magnetic_groups::{Group, NoMemory};
@@ -35,14 +37,17 @@ fn with_left<R: Rank>(
     op: &Op,
     flags: Flags,
     t: &[Root3],
+    carried: &mut Vec<Carried>,
 ) -> Result<Group, ActFault>
     requires size { length t.now ≡ R.LEN }
     requires frame { FitsFrame kept op.now }
+    requires carried { AreCarried (even_marks R.R) R.R R.LEN t.now carried.old.items }
+    ensures carried { IfOk result (λ _. AreCarried (even_marks R.R) R.R R.LEN t.now carried.new.items) }
     ensures step { IfOk result (IsStep (marks_of flags) R.R (tensor_of t.now) kept op.now) }
     ensures calm { IfOk result (λ _. ActGrows (marks_of flags) op.now R.R (tensor_of t.now) → ⊥) }
     ensures grows { IfErr result (λ e. e ≡ ActFault.TooLarge → ActGrows (marks_of flags) op.now R.R (tensor_of t.now)) }
 {
-    match first_changed::<R>(alloc, op, flags, t) {
+    match first_changed::<R>(alloc, op, flags, t, carried) {
         Ok(None) => match grown(alloc, kept, op) {
             Ok(group) => Ok(group),
             Err(_) => Err(ActFault::NoMemory),
@@ -68,8 +73,9 @@ fn elements_left<R: Rank>(
         Ok(group) => group,
         Err(_) => return Err(ActFault::NoMemory),
     };
+    let mut carried = Vec::new(alloc);
     for place in 0..all.len() {
-        kept = match with_left::<R>(alloc, kept, &all.at(place), flags, t) {
+        kept = match with_left::<R>(alloc, kept, &all.at(place), flags, t, &mut carried) {
             Ok(group) => group,
             Err(fault) => return Err(fault),
         };

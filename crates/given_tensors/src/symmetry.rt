@@ -13,7 +13,7 @@ use root3_num::Root3;
 use tensor_rank::{Comp, Order, Rank, Shape, Sign};
 
 /// The number with a sign.
-fn signed(sign: Sign, number: &Root3) -> Root3
+pub(crate) fn signed(sign: Sign, number: &Root3) -> Root3
     ensures { value_of_root result ≡ signed sign (value_of_root number.now) }
 {
     match sign {

@@ -52,3 +52,21 @@ fn vectors_are_judged(rt: HostRuntime) -> Result<(), Fail> {
     }
     Ok(())
 }
+
+// a magnetisation along z is left by 4/mm'm' and 6/mm'm'
+#[test]
+fn magnetisations_have_stabilisers(rt: HostRuntime) -> Result<(), Fail> {
+    let alloc = rt.alloc();
+    let magnetisation = Flags {
+        axial: true,
+        magnetic: true,
+    };
+    let t = vector([(0, 0), (0, 0), (1, 0)]);
+    for (whole, order) in [(Whole::Cubic, 16), (Whole::Hexagonal, 24)] {
+        assert_eq!(rt;
+            stabiliser::<R1>(alloc, whole, magnetisation, &t)?.len(),
+            order
+        );
+    }
+    Ok(())
+}

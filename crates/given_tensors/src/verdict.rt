@@ -47,8 +47,9 @@ pub fn check<R: Rank>(
         return Ok(Verdict::Symmetry { c });
     }
     let flags = shape.flags();
+    let mut carried = Vec::new(alloc);
     for place in 0..group.len() {
-        match first_changed(alloc, &group.at(place), flags, t) {
+        match first_changed(alloc, &group.at(place), flags, t, &mut carried) {
             Ok(None) => {}
             Ok(Some(c)) => {
                 return Ok(Verdict::Element {
