@@ -144,7 +144,7 @@ pub fn close_joined(alloc: Global, group: &Group, op: &Op) -> Result<Group, Allo
     requires { FitsFrame group.now op.now }
     ensures { IfOk result (λ g. IsListing comes_before (InTwinningGroup (In group.now) op.now) g) }
 {
-    let generators = extended(alloc, &group.generators, op)?;
+    let generators = extended(alloc, group.generators(), op)?;
     let mut marks = group.marks.copied();
     let mut found = Found::of(&group.elements);
     join(&generators, &mut marks, &mut found);
@@ -162,11 +162,10 @@ pub fn of_marks(alloc: Global, marks: Marks) -> Result<Group, AllocError>
     ensures { IfOk result (λ g. g ≡ marked_below 128 marks) }
 {
     let elements = list_marked(alloc, &marks)?;
-    let generators = copied(alloc, &elements)?;
     Ok(Group {
         elements,
         marks,
-        generators,
+        generators: Vec::new(alloc),
     })
 }
 
