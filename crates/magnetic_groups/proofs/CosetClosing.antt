@@ -6,7 +6,7 @@
 --   cosets_none, cosets_closed    the whole closing
 --   group_more, kept_group    groups that are closed already
 --   closed_by_none, group_next, front_kept, joined_group    with one generator after another
-use Rattle.std.proofs.Common.{◌≡◌, ℕ, ◌+◌, ◌*◌, ◌<◌, ◌≤◌, Bool, true, false, List, [], ◌∷◌, ◌++◌, length, take, zero, suc, refl, ap, sym, ◌∙◌, arith, subst, ◌⊎◌, inl, inr}
+use Rattle.std.proofs.Common.{◌≡◌, ℕ, ◌+◌, ◌<◌, ◌≤◌, Bool, true, false, List, [], ◌∷◌, ◌++◌, length, take, zero, suc, refl, ap, sym, ◌∙◌, arith, subst, ◌⊎◌, inl, inr}
 use Rattle.std.specs.Prelude.{slice_index_or, set, Contains, ◌↔◌, IsTrue}
 use Rattle.std.proofs.lemmas.List.{length-set, length_push, get_or_append_left, get_or_default, take_more, take_all}
 use Rattle.std.proofs.lemmas.List.Elements.{Contains-append_left, Contains-push, Contains-push_cases, Contains-get_or}
@@ -24,7 +24,7 @@ use Rattle.op_matrix.proofs.Listed.{plain_one, hex_one}
 use Rattle.magnetic_groups.specs.Joining.{AreCosets, HoldsGroup, InCoset, InFront, IsAdding}
 use Rattle.magnetic_groups.specs.Marks.{mark_at, marked_below, Reached, Added, unmarked, IsClosing, IsClosed, Grows, TimesReached, IsDone}
 use Rattle.magnetic_groups.specs.Sets.{HaveFrame, Spanned, IsKept}
-use Rattle.magnetic_groups.proofs.Reaching.{mark_inside, set_told, set_unmarked, spanned_times, reached_spanned, reached_more, times_more, grows_refl, grows_trans, added_grows, added_reached, added_closing}
+use Rattle.magnetic_groups.proofs.Reaching.{mark_inside, set_told, set_unmarked, reached_spanned, reached_more, times_more, grows_refl, grows_trans, added_grows, added_reached, added_closing}
 use Rattle.magnetic_groups.proofs.Marked.{contains_of}
 use Rattle.magnetic_groups.proofs.MarkedGroups.{marked_count}
 use Rattle.magnetic_groups.proofs.Doubling.{span_more}

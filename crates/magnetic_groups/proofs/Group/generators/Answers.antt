@@ -1,4 +1,4 @@
-use Rattle.std.proofs.Common.{◌≡◌, ◌∙◌, ap, length, sym}
+use Rattle.std.proofs.Common.{◌∙◌}
 use Rattle.magnetic_groups.proofs.Taking.{all_meant, generators_told, held_meant}
 use Rattle.magnetic_groups.proofs.Group.generators.Goals as goal
 

@@ -1,4 +1,4 @@
-use Rattle.std.proofs.Common.{◌≡◌, ◌≤◌, ◌∙◌, ◌++◌, ◌∷◌, [], ap, arith, length, refl, subst, sym}
+use Rattle.std.proofs.Common.{◌≡◌, ◌≤◌, ◌∙◌, ◌++◌, ◌∷◌, [], arith, length, subst, sym}
 use Rattle.magnetic_groups.specs.Joining.{HoldsGroup}
 use Rattle.magnetic_groups.specs.Sets.{FitsFrame, generators_of, HaveFrame, IsKept}
 use Rattle.magnetic_groups.proofs.Members.{kept_length}

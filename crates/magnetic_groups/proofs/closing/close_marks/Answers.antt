@@ -1,4 +1,4 @@
-use Rattle.std.proofs.Common.{[], take, refl, ap, arith, length}
+use Rattle.std.proofs.Common.{[], refl, ap, arith, length}
 use Rattle.magnetic_groups.proofs.Reaching.{closed_none}
 use Rattle.magnetic_groups.proofs.CosetClosing.{closed_by_none, group_next, front_kept}
 use Rattle.magnetic_groups.proofs.closing.close_marks.Goals as goal

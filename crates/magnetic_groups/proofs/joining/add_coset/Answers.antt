@@ -1,4 +1,4 @@
-use Rattle.std.proofs.Common.{◌+◌, arith}
+use Rattle.std.proofs.Common.{arith}
 use Rattle.tensor_defs.specs.Operation.{identity}
 use Rattle.magnetic_groups.proofs.CosetClosing.{adding_none, adding_more, in_front, with_one}
 use Rattle.magnetic_groups.proofs.joining.add_coset.Goals as goal

@@ -1,8 +1,4 @@
-use Rattle.std.proofs.Common.{ℕ, ◌+◌, ◌<◌, ◌≤◌, ◌⊎◌, ◌∙◌, ◌++◌, ◌∷◌, [], inl, inr, ap, sym, subst, arith}
-use Rattle.std.specs.Prelude.{slice_index_or}
-use Rattle.std.proofs.lemmas.Bool.{cases_lt}
-use Rattle.tensor_defs.specs.Operation.{Operation}
-use Rattle.magnetic_groups.specs.Marks.{IsDone}
+use Rattle.std.proofs.Common.{◌∙◌, ◌++◌, ◌∷◌, [], ap, arith}
 use Rattle.magnetic_groups.proofs.Reaching.{grows_refl, grows_trans}
 use Rattle.magnetic_groups.proofs.CosetClosing.{cosets_none, cosets_closed, firsts_done, head_reached}
 use Rattle.magnetic_groups.proofs.joining.join.Goals as goal

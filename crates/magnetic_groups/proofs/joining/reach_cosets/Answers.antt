@@ -1,9 +1,8 @@
-use Rattle.std.proofs.Common.{◌+◌, ◌∙◌, sym, subst, arith}
+use Rattle.std.proofs.Common.{◌+◌, ◌∙◌, sym, subst}
 use Rattle.std.proofs.lemmas.List.{get_or_default}
 use Rattle.tensor_defs.specs.Operation.{Operation}
 use Rattle.magnetic_groups.specs.Sets.{Spanned}
-use Rattle.magnetic_groups.specs.Marks.{Reached}
-use Rattle.magnetic_groups.proofs.Reaching.{spanned_framed, spanned_times, reached_spanned, reached_more}
+use Rattle.magnetic_groups.proofs.Reaching.{spanned_framed, spanned_times, reached_spanned}
 use Rattle.magnetic_groups.proofs.Spans.{span_common}
 use Rattle.magnetic_groups.proofs.CosetClosing.{IsReachingCosets, cosets_past, cosets_next, front_spanned}
 use Rattle.magnetic_groups.proofs.joining.reach_cosets.Goals as goal
