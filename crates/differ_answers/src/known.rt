@@ -60,31 +60,6 @@ fn write_again<R: Rank>(
     Ok(())
 }
 
-/// Appends the text of the state of an operation by its own rows.
-fn write_new<R: Rank>(
-    alloc: Global,
-    number: usize,
-    form: &Form<R>,
-    op: &Op,
-    flags: Flags,
-    known: &mut Vec<Known>,
-    out: &mut Vec<u8>,
-) -> Result<(), DifferFault>
-    requires formed { IsWellFormed R.R (form_table R.R form.now) }
-    requires known { Each (IsKnown (marks_of flags) R.R (form_table R.R form.now) out.old.items) known.old.items }
-    ensures ok { OnOk result (IsState (marks_of flags) R.R (form_table R.R form.now) op.now number out.old.items out.new.items) }
-    ensures known { OnOk result (Each (IsKnown (marks_of flags) R.R (form_table R.R form.now) out.new.items) known.new.items) }
-    ensures grows { IfErr result (λ e. e ≡ DifferFault.TooLarge → SomeRowGrows (marks_of flags) op.now R.R (form_table R.R form.now)) }
-    ensures units { IfErr result (λ e. e ≡ DifferFault.TooLarge → ¬ HasUnitRows R.LEN form.now) }
-    ensures longer { IsLonger out.old.items out.new.items }
-    ensures capacity { vec_capacity out.old ≤ vec_capacity out.new }
-{
-    let rows = state_rows(alloc, form, op, flags)?;
-    let lines = write_state(alloc, number, form, &rows, out)?;
-    known.push(Known { op: *op, lines })?;
-    Ok(())
-}
-
 /// Appends the text of the state of an operation: the equations of one that acts alike serve again.
 pub fn write_known<R: Rank>(
     alloc: Global,
@@ -109,6 +84,11 @@ pub fn write_known<R: Rank>(
             write_again::<R>(alloc, number, lines, out)?;
             Ok(())
         }
-        None => write_new(alloc, number, form, op, flags, known, out),
+        None => {
+            let rows = state_rows(alloc, form, op, flags)?;
+            let lines = write_state(alloc, number, form, &rows, out)?;
+            known.push(Known { op: *op, lines })?;
+            Ok(())
+        }
     }
 }

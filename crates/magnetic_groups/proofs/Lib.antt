@@ -8,5 +8,6 @@ pub mod SymbolFrames
 pub mod Meeting
 pub mod Doubling
 pub mod Taking
+pub mod CosetClosing
 mod Digits
 mod MarkedGroups

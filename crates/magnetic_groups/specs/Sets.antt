@@ -4,11 +4,12 @@
 --   Spanned        all products of finite lists of members
 --   HasForm        a set of operations has one of the 64 matrices, unprimed or primed
 --   IsGroup        a list of operations that is a group, in the order of operations
+--   generators_of  the generators of a group: those that are held, or all elements where none is
 --   IsKept         what the parts of a group have to do with one another
 --   TellsOutside   the least place of a member that isn't in the other list, or that there is none
 --   TellsPlace     the place of a member, or that it is none
 -- Source: the definition of a group.
-use Rattle.std.specs.Prelude.{◌≡◌, ℕ, ◌<◌, slice_index_or, slice_get, Option, Some, MatchOption, Bool, List, length}
+use Rattle.std.specs.Prelude.{◌≡◌, ℕ, ◌<◌, slice_index_or, slice_get, Option, Some, MatchOption, Bool, List, [], ◌∷◌, length}
 use Rattle.std.specs.Prelude.{Contains, ◌⊎◌, ◌↔◌}
 use Rattle.tensor_defs.specs.Lists.{IsRising}
 use Rattle.tensor_defs.specs.Operation.{Operation, IsProduct, identity}
@@ -46,6 +47,10 @@ pub record IsGroup (items : List Operation) : Type 0 where
       (k : Operation) × Contains items k × IsProduct g h k
   pub inverses : (g : Operation) → Contains items g → InverseIn (In items) g
   pub frame : HaveFrame items
+
+abbrev pub generators_of : List Operation → List Operation → List Operation
+generators_of [] items = items
+generators_of (g ∷ gs) items = g ∷ gs
 
 -- the list is that of the marked places, it is a group, and the generators span it
 pub record IsKept (generators : List Operation) (items : List Operation) (m : List Bool) : Type 0 where

@@ -4,11 +4,13 @@ ghost use Rattle.std.specs.Int.{bit_at};
 ghost use Rattle.tensor_defs.specs.Operation.{Operation};
 ghost use Rattle.tensor_defs.specs.Lists.{IsListing};
 ghost use Rattle.tensor_defs.specs.OperationOrder.{comes_before};
+ghost use Rattle.tensor_defs.specs.States.{InTwinningGroup};
 ghost use Rattle.magnetic_groups.specs.Marks.{marked_below, Added, Grows, IsClosed, IsClosing, IsDone, Reached, unmarked};
-ghost use Rattle.magnetic_groups.specs.Sets.{HaveFrame, IsGroup, IsKept, Spanned};
+ghost use Rattle.magnetic_groups.specs.Sets.{FitsFrame, HaveFrame, In, IsGroup, IsKept, Spanned};
 
 use crate::Group;
 use crate::found::Found;
+use crate::joining::join;
 use crate::marks::Marks;
 use op_matrix::Op;
 use std::alloc::{AllocError, Global};
@@ -63,7 +65,9 @@ pub fn close_marks(generators: &[Op]) -> Marks
     let mut marks = Marks::none();
     let mut found = Found::none();
     add(Op::identity(), &mut marks, &mut found);
-    finish(generators, 0, &mut marks, &mut found);
+    for place in 0..generators.len() {
+        join(&generators[..place + 1], &mut marks, &mut found);
+    }
     marks
 }
 
@@ -135,17 +139,33 @@ pub fn close(alloc: Global, generators: Vec<Op>) -> Result<Group, AllocError>
     })
 }
 
+/// The group of all products of the elements of a group and an operation.
+pub fn close_joined(alloc: Global, group: &Group, op: &Op) -> Result<Group, AllocError>
+    requires { FitsFrame group.now op.now }
+    ensures { IfOk result (λ g. IsListing comes_before (InTwinningGroup (In group.now) op.now) g) }
+{
+    let generators = extended(alloc, group.generators(), op)?;
+    let mut marks = group.marks.copied();
+    let mut found = Found::of(&group.elements);
+    join(&generators, &mut marks, &mut found);
+    let elements = list_marked(alloc, &marks)?;
+    Ok(Group {
+        elements,
+        marks,
+        generators,
+    })
+}
+
 /// The group of the marked operations. All of its elements generate it.
 pub fn of_marks(alloc: Global, marks: Marks) -> Result<Group, AllocError>
     requires { IsGroup (marked_below 128 marks) }
     ensures { IfOk result (λ g. g ≡ marked_below 128 marks) }
 {
     let elements = list_marked(alloc, &marks)?;
-    let generators = copied(alloc, &elements)?;
     Ok(Group {
         elements,
         marks,
-        generators,
+        generators: Vec::new(alloc),
     })
 }
 
@@ -164,7 +184,10 @@ pub fn copied(alloc: Global, operations: &[Op]) -> Result<Vec<Op>, AllocError>
 pub fn extended(alloc: Global, operations: &[Op], last: &Op) -> Result<Vec<Op>, AllocError>
     ensures { IfOk result (λ v. v.items ≡ operations.now ++ last.now ∷ []) }
 {
-    let mut all = copied(alloc, operations)?;
+    let mut all = Vec::with_capacity(alloc, operations.len() + 1)?;
+    for operation in operations {
+        all.push(*operation)?;
+    }
     all.push(*last)?;
     Ok(all)
 }

@@ -1,5 +1,5 @@
 //! The operations that the closing of a group has found.
-ghost use Rattle.std.specs.Prelude.{◌≡◌, ◌<◌, length, [], ◌∷◌, ◌++◌, slice_index_or};
+ghost use Rattle.std.specs.Prelude.{◌≡◌, ◌<◌, ◌≤◌, length, [], ◌∷◌, ◌++◌, slice_index_or};
 ghost use Rattle.tensor_defs.specs.Operation.{Operation};
 
 use op_matrix::Op;
@@ -32,6 +32,18 @@ impl Found {
             operations: [Op::identity(); 128],
             len: 0,
         }
+    }
+
+    /// The operations of a list, at most 128.
+    pub fn of(operations: &[Op]) -> Found
+        requires { length operations.now ≤ 128 }
+        ensures { result ≡ operations.now }
+    {
+        let mut found = Found::none();
+        for operation in operations {
+            found.push(*operation);
+        }
+        found
     }
 
     /// Puts an operation at the end.

@@ -13,8 +13,10 @@ impl Group {
         ensures elements { AllOf (In result.now) (In self.now) }
         ensures spanned { (k : Operation) → Contains self.now k ↔ Spanned result.now k }
     {
-        // a field that is read brings the invariant into the proof
-        let _marks = &self.marks;
-        &self.generators
+        let held: &[Op] = &self.generators;
+        if held.is_empty() {
+            return &self.elements;
+        }
+        held
     }
 }

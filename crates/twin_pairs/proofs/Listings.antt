@@ -1,7 +1,7 @@
 -- The states of a class in their order.
 --   state_within, state_below    states
 --   IsListed    the members up to n
-use Rattle.std.proofs.Common.{◌≡◌, ℕ, zero, suc, ◌+◌, ◌-◌, ◌⊎◌, inl, inr, ◌<◌, ◌≤◌, Bool, true, false, List, [], ◌∷◌, ◌++◌, length, refl, ap, sym, ◌∙◌, arith, subst}
+use Rattle.std.proofs.Common.{◌≡◌, ℕ, zero, suc, ◌+◌, ◌-◌, ◌⊎◌, inl, inr, ◌<◌, ◌≤◌, min, Bool, true, false, List, [], ◌∷◌, ◌++◌, length, refl, ap, sym, ◌∙◌, arith, subst}
 use Rattle.std.specs.Prelude.{Contains, ◌↔◌, IsTrue, Some, None, nat_lt}
 use Rattle.std.proofs.lemmas.Bool.Decides.{nat_tests}
 use Rattle.std.proofs.lemmas.Option.{slice_get_within}
@@ -12,11 +12,12 @@ use Rattle.list_laws.proofs.Members.{each_push, each_held, each_map, each_found}
 use Rattle.tensor_defs.specs.Lists.{Each, IsRising}
 use Rattle.tensor_defs.specs.Operation.{Operation}
 use Rattle.tensor_defs.specs.States.{InDouble, IsState, AreStates}
+use Rattle.magnetic_groups.specs.Marks.{mark_at}
 use Rattle.magnetic_groups.specs.Sets.{In, IsGroup, IsWithin}
 use Rattle.magnetic_groups.proofs.Cosets.{coset_self}
 use Rattle.coset_states.specs.Numbering.{Cosets, TellsState}
 use Rattle.tensor_laws.proofs.States.{one_state}
-use Rattle.twin_pairs.specs.Classes.{HasNoEarlier, AreMembers}
+use Rattle.twin_pairs.specs.Classes.{HasNoEarlier, AreMarked, AreMembers, IsLast}
 use Rattle.twin_pairs.proofs.DoubleCosets.{double_self}
 
 -- ---- states
@@ -108,11 +109,22 @@ module _ (c : Cosets) (g : Operation) (ig : IsGroup c.whole) (jf : IsGroup c.sub
             λ d. absurd (false≢true (sym f ∙ (at_state (n + 1) b t s (subst (λ m. IsState c.reps m s) r at)).1 d)),
           )
 
-  pub listed_done : (k n : ℕ) (ms : List ℕ) → IsListed k n ms → length c.reps ≤ n → AreMembers c g k ms
-  listed_done k n ms i h = record {
+  -- past the last number that is marked there are no members
+  pub listed_done : (k n last : ℕ) (ms : List ℕ) (m : List Bool) → IsListed k n ms → AreMarked c g m → IsLast m last → min last (length c.reps) ≤ n → AreMembers c g k ms
+  listed_done k n last ms m i marked most h = record {
     others = i.others;
     begins = i.begins;
     rising = i.rising;
     within = i.within;
-    members = λ l s at. let o = state_below c.reps l s at in i.members l s (omega arith) at;
+    members = λ l s at. by l s at (cases_lt n l);
   }
+    where
+      by : (l : ℕ) (s : Operation) → IsState c.reps l s → (n < l) ⊎ (l ≤ n) → Contains ms l ↔ InDouble (In c.sub) g s
+      by l s at (inr p) = i.members l s p at
+      by l s at (inl p) = (
+        λ x. let o : l ≤ n = each_held (λ l. l ≤ n) ms i.below l x in absurd (omega arith),
+        λ d.
+            let o = most l ((at_state l (mark_at m l) (marked.tells l) s at).1 d) in
+            let q = state_below c.reps l s at in
+            absurd (omega (arith, o, q)),
+      )

@@ -1,8 +1,12 @@
 -- The states that lie in a double coset FgF, marked by the products f·g.
 --   IsMarking, marking_none, marking_more    those of the first n products
+--   last_none, last_more    the greatest of their numbers
 --   marking_done    all of them
 use Rattle.std.proofs.Common.{◌≡◌, ℕ, ◌+◌, ◌⊎◌, inl, inr, ◌<◌, ◌≤◌, Bool, true, false, List, length, ap, sym, ◌∙◌, arith, subst}
 use Rattle.std.specs.Prelude.{Contains, ◌↔◌, replicate, set, slice_index_or, Some}
+use Rattle.std.specs.Ordering.{ord_max}
+use Rattle.std.proofs.Common.{nat_cmp}
+use Rattle.std.proofs.lemmas.Bool.Decides.{nat_tests}
 use Rattle.std.proofs.lemmas.Bool.{cases_lt}
 use Rattle.std.proofs.lemmas.List.{length-set}
 use Rattle.tensor_defs.specs.Operation.{Operation, IsProduct}
@@ -12,7 +16,7 @@ use Rattle.magnetic_groups.specs.Marks.{mark_at}
 use Rattle.magnetic_groups.specs.Sets.{In, IsGroup, IsWithin}
 use Rattle.magnetic_groups.proofs.Reaching.{no_mark, set_kept, set_new, set_told}
 use Rattle.coset_states.specs.Numbering.{Cosets, TellsState}
-use Rattle.twin_pairs.specs.Classes.{AreMarked}
+use Rattle.twin_pairs.specs.Classes.{AreMarked, IsLast}
 use Rattle.twin_pairs.proofs.DoubleCosets.{double_from, double_told}
 use Rattle.tensor_laws.proofs.States.{one_state}
 use Rattle.twin_pairs.proofs.Listings.{state_within}
@@ -35,6 +39,15 @@ marking_none c r m e = record {
   sound = λ k t. absurd (no_mark 129 k (subst (λ x. mark_at x k ≡ true) e t));
   complete = λ q d x s k h. absurd (omega arith);
 }
+
+pub last_none : (m : List Bool) → m ≡ replicate 129 false → IsLast m 0
+last_none m e k t = absurd (no_mark 129 k (subst (λ x. mark_at x k ≡ true) e t))
+
+max_above : (a b : ℕ) → (a ≤ ord_max nat_cmp a b) × (b ≤ ord_max nat_cmp a b)
+max_above a b = (first_of (grind (arith, nat_tests), omega arith), first_of (grind (arith, nat_tests), omega arith))
+
+pub last_more : (m : List Bool) (k last : ℕ) → IsLast m last → IsLast (set m k true) (ord_max nat_cmp last k)
+last_more m k last i j t = let u = max_above last k in let a = u.0 in let b = u.1 in elim (set_told m k j t) [ inl e ↦ omega (arith, b, e) | inr h ↦ let o = i j h in omega (arith, o, a) ]
 
 module _ (c : Cosets) (r : Operation) (ig : IsGroup c.whole) (jf : IsGroup c.sub) (w : IsWithin c.sub c.whole) (a : AreStates (In c.whole) (In c.sub) c.reps) (cr : Contains c.whole r) where
   pub marking_more : (n k : ℕ) (f : Operation) (m : List Bool) → IsMarking c r n m → Contains c.sub f → ((d : Operation) → slice_index_or c.sub n d ≡ f) → IsCarried c f r k → k ≤ 128 → IsMarking c r (n + 1) (set m k true)

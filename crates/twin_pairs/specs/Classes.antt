@@ -2,6 +2,7 @@
 --   class_of       a class of the code as a class of the definitions
 --   HasNoEarlier   no state before a number lies in a double coset
 --   AreMarked      the states that lie in a double coset are marked
+--   IsLast         no number past it is marked
 --   AreAdded       the first n of some numbers are marked, and no others that weren't
 --   AreMembers     the states of a double coset, where a state is the least
 --   IsClassFrom    the class of a state that is the least of its class
@@ -33,6 +34,9 @@ HasNoEarlier c g k = (l : ℕ) (s : Operation) → IsState c.reps l s → l < k 
 pub record AreMarked (c : Cosets) (g : Operation) (m : List Bool) : Type 0 where
   pub sized : length m ≡ 129
   pub tells : (k : ℕ) (x : Operation) → TellsState c x (Some k) → (mark_at m k ≡ true) ↔ InDouble (In c.sub) g x
+
+abbrev pub IsLast : List Bool → ℕ → Type 0
+IsLast m last = (k : ℕ) → mark_at m k ≡ true → k ≤ last
 
 pub record AreAdded (ks : List ℕ) (n : ℕ) (m m' : List Bool) : Type 0 where
   pub kept : (k : ℕ) → mark_at m k ≡ true → mark_at m' k ≡ true

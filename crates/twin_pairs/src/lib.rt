@@ -10,7 +10,7 @@ ghost use Rattle.tensor_defs.specs.PairClasses.{ArePairClasses};
 ghost use Rattle.tensor_defs.specs.Names.{IsNameOf};
 ghost use Rattle.magnetic_groups.specs.Sets.{In, IsWithin};
 ghost use Rattle.coset_states.specs.Numbering.{TellsState};
-ghost use Rattle.twin_pairs.specs.Classes.{AreAdded, AreMarked, AreMembers, HasNoEarlier, IsClassFrom, class_of};
+ghost use Rattle.twin_pairs.specs.Classes.{AreAdded, AreMarked, AreMembers, HasNoEarlier, IsClassFrom, IsLast, class_of};
 
 #[cfg(test)]
 mod tests;
@@ -110,20 +110,29 @@ fn state_of_product(states: &States, member: &Op, element: &Op) -> usize
     state
 }
 
-/// Marks the states that lie in the double coset of an element, each at the place of its number.
-fn mark_states(states: &States, element: &Op) -> [bool; 129]
+/// The states that lie in a double coset, each marked at the place of its number, and the greatest of their numbers.
+struct Marked {
+    marks: [bool; 129],
+    last: usize,
+}
+
+/// Marks the states that lie in the double coset of an element.
+fn mark_states(states: &States, element: &Op) -> Marked
     requires { Contains states.now.whole element.now }
-    ensures { AreMarked states.now element.now result }
+    ensures marked { AreMarked states.now element.now result.marks }
+    ensures last { IsLast result.marks result.last }
 {
     // what the count tells of the groups is for the proof
     let _count = states.count();
     let mut marks = [false; 129];
+    let mut last = 0;
     let sub = states.sub();
     for place in 0..sub.len() {
         let state = state_of_product(states, &sub.at(place), element);
         marks[state] = true;
+        last = last.max(state);
     }
-    marks
+    Marked { marks, last }
 }
 
 /// The numbers of the states in the double coset of the representative of state `k`, the least of them.
@@ -139,10 +148,10 @@ fn list_members(
     requires first { HasNoEarlier states.now element.now k }
     ensures { IfOk result (AreMembers states.now element.now k) }
 {
-    let marks = mark_states(states, element);
+    let Marked { marks, last } = mark_states(states, element);
     let mut numbers = Vec::new(alloc);
     numbers.push(k)?;
-    for place in k..states.count() {
+    for place in k..last.min(states.count()) {
         if marks[place + 1] {
             numbers.push(place + 1)?;
         }
@@ -245,7 +254,7 @@ pub fn pair_classes(alloc: Global, states: &States) -> Result<Vec<PairClass>, No
     ensures { IfOk result (λ v. ArePairClasses (In states.now.whole) (In states.now.sub) states.now.reps (map class_of v.items)) }
 {
     let sub_name = name_of(alloc, states.sub())?;
-    let mut classes = Vec::new(alloc);
+    let mut classes = Vec::with_capacity(alloc, states.count())?;
     let mut seen = [false; 129];
     for place in 0..states.count() {
         if !seen[place + 1] {

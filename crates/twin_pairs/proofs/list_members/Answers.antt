@@ -9,9 +9,16 @@ loop-place-init c = λ i j w a. listed_one c.args.states.now c.args.element.now 
 
 pub loop-place-preserved : goal.loop-place-preserved
 loop-place-preserved c = λ i j w a. elim c.if-marks-place.branch [
-  | then-marks-place+in_ok-push-2 y ↦ listed_push c.args.states.now c.args.element.now i j w a c.args.k c.loop-place.place c.loop-place.numbers.items c.if-marks-place.numbers.items (mark_at c.mark_states-marks.result (c.loop-place.place + 1)) (c.loop-place.invariant i j w a) (let h : c.loop-place.place < length c.args.states.now.reps = subst (λ x. c.loop-place.place < x) c.count-place-end.ensures.is c.loop-place-test.true in h) (ap (λ v. v.items) y.numbers-is ∙ y.in_ok-push-2.ensures.items) (c.mark_states-marks.ensures.tells (c.loop-place.place + 1)) y.if-marks-place.true
-  | else-marks-place y ↦ listed_skip c.args.states.now c.args.element.now i j w a c.args.k c.loop-place.place c.loop-place.numbers.items c.if-marks-place.numbers.items (mark_at c.mark_states-marks.result (c.loop-place.place + 1)) (c.loop-place.invariant i j w a) (ap (λ v. v.items) y.numbers-is) (c.mark_states-marks.ensures.tells (c.loop-place.place + 1)) y.if-marks-place.false
+  | then-marks-place+in_ok-push-2 y ↦ listed_push c.args.states.now c.args.element.now i j w a c.args.k c.loop-place.place c.loop-place.numbers.items c.if-marks-place.numbers.items (mark_at c.mark_states-last.result.marks (c.loop-place.place + 1)) (c.loop-place.invariant i j w a) (let h : c.loop-place.place < length c.args.states.now.reps = (let n = c.count.ensures.is in let e = c.min-place-end.ensures in let t = c.loop-place-test.true in omega (arith, n, e, t)) in h) (ap (λ v. v.items) y.numbers-is ∙ y.in_ok-push-2.ensures.items) (c.mark_states-last.ensures.marked.tells (c.loop-place.place + 1)) y.if-marks-place.true
+  | else-marks-place y ↦ listed_skip c.args.states.now c.args.element.now i j w a c.args.k c.loop-place.place c.loop-place.numbers.items c.if-marks-place.numbers.items (mark_at c.mark_states-last.result.marks (c.loop-place.place + 1)) (c.loop-place.invariant i j w a) (ap (λ v. v.items) y.numbers-is) (c.mark_states-last.ensures.marked.tells (c.loop-place.place + 1)) y.if-marks-place.false
 ]
 
 pub returns : goal.returns
-returns c = listed_done c.args.states.now c.args.element.now c.count-place-end.ensures.groups.0 c.count-place-end.ensures.groups.1 c.count-place-end.ensures.within c.count-place-end.ensures.states c.args.k c.loop-place.place c.loop-place.numbers.items (c.loop-place.invariant c.count-place-end.ensures.groups.0 c.count-place-end.ensures.groups.1 c.count-place-end.ensures.within c.count-place-end.ensures.states) (omega arith)
+returns c =
+    let n = c.count.ensures.is in
+    let e = c.min-place-end.ensures in
+    let t = c.loop-place-test.false in
+    listed_done c.args.states.now c.args.element.now c.count.ensures.groups.0 c.count.ensures.groups.1 c.count.ensures.within c.count.ensures.states c.args.k
+    c.loop-place.place c.mark_states-last.result.last c.loop-place.numbers.items c.mark_states-last.result.marks
+    (c.loop-place.invariant c.count.ensures.groups.0 c.count.ensures.groups.1 c.count.ensures.within c.count.ensures.states)
+    c.mark_states-last.ensures.marked c.mark_states-last.ensures.last (omega (arith, n, e, t))

@@ -12,8 +12,8 @@ use Rattle.twin_pairs.proofs.pair_classes.Goals as goal
 pub loop-place-init : goal.loop-place-init
 loop-place-init c = record {
   classing = classing_none c.args.states.now c.count-place-end.ensures.groups.0 c.count-place-end.ensures.groups.1 c.count-place-end.ensures.within
-      c.count-place-end.ensures.states (map class_of c.new-classes.result.items) (ap (map class_of) c.new-classes.ensures.items);
-  seen = seen_none (map class_of c.new-classes.result.items) _ (ap (map class_of) c.new-classes.ensures.items) refl;
+      c.count-place-end.ensures.states (map class_of c.in_ok-classes.classes.items) (ap (map class_of) c.in_ok-classes.ensures.items);
+  seen = seen_none (map class_of c.in_ok-classes.classes.items) _ (ap (map class_of) c.in_ok-classes.ensures.items) refl;
 }
 
 pub pair_class-requires-clause-inside : goal.pair_class-requires-clause-inside

@@ -1,15 +1,19 @@
-use Rattle.std.proofs.Common.{◌↔◌, Contains, List, sym, subst}
-use Rattle.tensor_defs.specs.Operation.{Operation}
-use Rattle.tensor_defs.specs.Frames.{AllOf}
-use Rattle.magnetic_groups.specs.Sets.{In, Spanned}
+use Rattle.std.proofs.Common.{◌∙◌}
+use Rattle.magnetic_groups.proofs.Taking.{all_meant, generators_told, held_meant}
 use Rattle.magnetic_groups.proofs.Group.generators.Goals as goal
 
-pub returns-clause-elements : goal.returns-clause-elements
-returns-clause-elements c =
-    subst (λ (xs : List Operation). AllOf (In xs) (In c.args.self.now)) (sym c.deref.ensures.value)
-    (subst (λ (ys : List Operation). AllOf (In c.self.inside.generators.items) (In ys)) c.self.view_is c.self.invariant.inside)
+pub returns-then-is_empty : goal.returns-then-is_empty
+returns-then-is_empty c =
+    let held = c.self.inside.generators.items in
+    let items = c.self.inside.elements.items in
+    let told = generators_told held c.deref.result.now items c.args.self.now c.self.inside.marks c.self.invariant c.self.view_is
+    (c.deref.ensures.value ∙ all_meant held c.deref-held.result.now items c.is_empty.result c.deref-held.ensures.value c.is_empty.ensures c.if-is_empty.true) in
+    record { elements = told.0; spanned = told.1 }
 
-pub returns-clause-spanned : goal.returns-clause-spanned
-returns-clause-spanned c =
-    subst (λ (xs : List Operation). (k : Operation) → Contains c.args.self.now k ↔ Spanned xs k) (sym c.deref.ensures.value)
-    (subst (λ (ys : List Operation). (k : Operation) → Contains ys k ↔ Spanned c.self.inside.generators.items k) c.self.view_is c.self.invariant.spanned)
+pub returns : goal.returns
+returns c =
+    let held = c.self.inside.generators.items in
+    let items = c.self.inside.elements.items in
+    let told = generators_told held c.deref-held.result.now items c.args.self.now c.self.inside.marks c.self.invariant c.self.view_is
+    (c.deref-held.ensures.value ∙ held_meant held c.deref-held.result.now items c.is_empty.result c.deref-held.ensures.value c.is_empty.ensures c.if-is_empty.false) in
+    record { elements = told.0; spanned = told.1 }
