@@ -1,6 +1,6 @@
 //! Tables of free components and of the terms of every component.
-ghost use Rattle.std.specs.Prelude.{◌≡◌, ◌≤◌, ◌<◌, ℕ, length};
-ghost use Rattle.reduced_form.specs.Forms.{free_at, row_at};
+ghost use Rattle.std.specs.Prelude.{◌≡◌, ◌≤◌, ◌<◌, ℕ, length, map};
+ghost use Rattle.reduced_form.specs.Forms.{IsForm, free_at, row_at};
 
 use exact_frac::Frac;
 use smallvec::SmallVec;
@@ -64,5 +64,14 @@ impl<R: Rank> Form<R> {
         ensures { result.now ≡ row_at self.now.rows c }
     {
         self.rows[c.number() as usize].as_slice()
+    }
+
+    /// The free components, by their numbers in their order, and the terms of each component.
+    pub fn into_parts(self) -> (Vec<u16>, Vec<SmallVec<Term, 2>>)
+        ensures free { result.0.items ≡ self.free }
+        ensures rows { map (λ row. row.items) result.1.items ≡ self.rows }
+        ensures whole { IsForm R.LEN self }
+    {
+        (self.free, self.rows)
     }
 }

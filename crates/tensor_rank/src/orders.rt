@@ -1,5 +1,5 @@
 //! Index order and the orders by blocks.
-ghost use Rattle.std.specs.Prelude.{◌≡◌, ℕ, ◌+◌, ◌<◌, ◌≤◌, ◌↔◌, IsNone, IfSome, [], ◌∷◌, drop};
+ghost use Rattle.std.specs.Prelude.{◌≡◌, ℕ, ◌+◌, ◌*◌, ◌<◌, ◌≤◌, ◌↔◌, IsNone, IfSome, [], ◌∷◌, drop};
 ghost use Rattle.tensor_defs.specs.Orders.{block_before, block_numbers, index_before};
 ghost use Rattle.tensor_defs.specs.Tensor.{index_of};
 ghost use Rattle.tensor_rank.specs.Orders.{AreBlocks, AreSpelled, ByBlocks, ByIndex, IsBlock, before_of, front_number, is_by_index, spell};
@@ -162,18 +162,24 @@ fn spelled_at<R: Rank>(sizes: &[u8], spelled: &[u8], c: Comp<R>) -> u32
     spelled_by(sizes, c)
 }
 
-/// Whether a component comes before another in the order of blocks, by what their numbers spell.
-fn spelled_precede<R: Rank>(sizes: &[u8], spelled: &[u8], a: Comp<R>, b: Comp<R>) -> bool
+/// What decides between components in the order of blocks: what the numbers of the blocks spell, and behind it the
+/// component's own number.
+fn key_at<R: Rank>(sizes: &[u8], spelled: &[u8], c: Comp<R>) -> u64
+    requires blocks { AreBlocks R.R sizes.now }
+    requires spelled { AreSpelled R.R sizes.now spelled.now }
+    ensures is { result ≡ 1024 * spell 0 (block_numbers sizes.now (index_of R.R c)) + c }
+    ensures component { c < R.LEN }
+{
+    1024 * u64::from(spelled_at(sizes, spelled, c)) + u64::from(c.number())
+}
+
+/// Whether a component comes before another in the order of blocks.
+fn blocks_precede<R: Rank>(sizes: &[u8], spelled: &[u8], a: Comp<R>, b: Comp<R>) -> bool
     requires blocks { AreBlocks R.R sizes.now }
     requires spelled { AreSpelled R.R sizes.now spelled.now }
     ensures { result ≡ block_before sizes.now (index_of R.R a) (index_of R.R b) }
 {
-    let one = spelled_at(sizes, spelled, a);
-    let other = spelled_at(sizes, spelled, b);
-    if one != other {
-        return one < other;
-    }
-    index_precedes(a, b)
+    key_at(sizes, spelled, a) < key_at(sizes, spelled, b)
 }
 
 impl<R: Rank> Order<R> {
@@ -234,7 +240,7 @@ impl<R: Rank> Order<R> {
                 sizes,
                 count,
                 spelled,
-            } => spelled_precede(&sizes[..*count], spelled, a, b),
+            } => blocks_precede(&sizes[..*count], spelled, a, b),
         }
     }
 }

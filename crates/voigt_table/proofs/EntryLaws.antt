@@ -23,11 +23,11 @@ use Rattle.voigt_table.specs.declared.entries.Blocks.TheVariants.{Pair, VectorPa
 use Rattle.voigt_table.specs.Blocks.{component_at, entry_at, entry_count, entry_number, entry_of, sizes_of}
 
 -- ---- tests of all numbers below an end
-abbrev all_below : (ℕ → Bool) → ℕ → Bool
+abbrev pub all_below : (ℕ → Bool) → ℕ → Bool
 all_below p zero = true
 all_below p (suc n) = cond (p n) (all_below p n) false
 
-all_told : (p : ℕ → Bool) (n : ℕ) → all_below p n ≡ true → (k : ℕ) → k < n → p k ≡ true
+pub all_told : (p : ℕ → Bool) (n : ℕ) → all_below p n ≡ true → (k : ℕ) → k < n → p k ≡ true
 all_told p zero e k l = absurd (omega arith)
 all_told p (suc n) e k l =
     let parts = both (p n) (all_below p n) e in

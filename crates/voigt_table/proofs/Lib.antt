@@ -4,3 +4,4 @@ pub mod EntryLaws
 pub mod WeightLaws
 pub mod TextLaws
 pub mod TableLaws
+pub mod KeptLaws

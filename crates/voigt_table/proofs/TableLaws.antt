@@ -65,7 +65,7 @@ maps_same g p q (x ∷ xs) [] l h = absurd (omega arith)
 maps_same g p q (x ∷ xs) (y ∷ ys) l h =
     λ i. h 0 (omega arith) i ∷ maps_same g p q xs ys (omega arith) (λ k m. h (suc k) (omega arith)) i
 
-no_term : Term
+pub no_term : Term
 no_term = record { free = 0; factor = record { num = pos 0; den = 1 } }
 
 -- ---- the Voigt table of a table that fits

@@ -2,24 +2,27 @@
 --   IsWeighted      a term with its factor weighted
 --   AreWeightedTerms    those of a row
 --   WeighsTooMuch   a weighted factor of a row reaches the limit
---   IsUnits         factors are 1 or -1
+--   AreHeld         factors of a row can be held
+--   AreWeighed      of the rows of all components, those of the first entries weighted
 --   entry_of_place  the entry of a free component, by its place
 --   IsWeighed       the table whose rows are the weighted ones of a component table
 --   TellsWeighed    that table, or a weighted factor that reaches the limit, or want of memory
 -- Source: International Tables D 1.1 (factors of 2 and 4 for compliances).
-use Rattle.std.specs.Prelude.{◌≡◌, ℕ, ◌<◌, List, Contains, length, get_or, Result, Ok, Err}
+use Rattle.std.specs.Prelude.{◌≡◌, ℕ, ◌<◌, ◌≤◌, List, Contains, length, map, get_or, Result, Ok, Err}
 use Rattle.std.specs.List.{AllZip}
 use Rattle.tensor_defs.specs.declared.Weights.{Weights}
+use Rattle.tensor_defs.specs.Lists.{Each}
 use Rattle.tensor_defs.specs.Number.{ReachesLimit, value_of}
 use Rattle.tensor_defs.specs.Orders.{block_numbers}
 use Rattle.tensor_defs.specs.Tensor.{component_number, index_of}
 use Rattle.tensor_defs.specs.Voigt.{VoigtEntry, component_of, weighted}
-use Rattle.exact_frac.specs.Held.{IsHeldAs}
+use Rattle.exact_frac.specs.Held.{IsHeld, IsHeldAs}
 use Rattle.reduced_form.specs.declared.forms.Term.{Term}
 use Rattle.reduced_form.specs.declared.memory.SolveFault.{SolveFault}
 use Rattle.reduced_form.specs.declared.memory.SolveFault.TheVariants.{TooLarge, NoMemory}
 use Rattle.reduced_form.specs.Forms.{FormValue, free_at, row_at}
-use Rattle.voigt_table.specs.Blocks.{entry_at, entry_count}
+use Rattle.voigt_table.specs.declared.entries.Blocks.{Blocks}
+use Rattle.voigt_table.specs.Blocks.{component_at, entry_at, entry_count, entry_of, sizes_of}
 use Rattle.voigt_table.specs.Tables.{VoigtValue}
 
 pub record IsWeighted (w : Weights) (frees : ℕ → VoigtEntry) (e : VoigtEntry) (t u : Term) : Type 0 where
@@ -40,6 +43,17 @@ entry_of_place bs free k = entry_at bs (get_or free k 0)
 -- the terms of the component of an entry
 abbrev pub entry_terms : List ℕ → FormValue → ℕ → List Term
 entry_terms bs f k = row_at f.rows (component_number (component_of bs (entry_at bs k)))
+
+abbrev pub AreHeld : List Term → Type 0
+AreHeld ts = Each (λ t. IsHeld t.factor) ts
+
+pub record AreWeighed (b : Blocks) (w : Weights) (free : List ℕ) (old new : List (List Term)) (end : ℕ) : Type 0 where
+  pub len : length new ≡ length old
+  pub named : (c : ℕ) → c < length old → Each (λ t. t.free < length free) (row_at new c)
+  pub done : (k : ℕ) → k < end →
+      AreWeightedTerms w (entry_of_place (sizes_of b) (map (entry_of b) free)) (entry_at (sizes_of b) k)
+      (row_at old (component_at b k)) (row_at new (component_at b k))
+  pub rest : (k : ℕ) → end ≤ k → k < entry_count (sizes_of b) → row_at new (component_at b k) ≡ row_at old (component_at b k)
 
 -- for a component table of rank r
 pub record IsWeighed (r : ℕ) (w : Weights) (bs : List ℕ) (f : FormValue) (v : VoigtValue) : Type 0 where

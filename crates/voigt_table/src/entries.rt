@@ -103,6 +103,7 @@ impl Blocks {
     /// The number of the component of an entry: the first one that has its block numbers.
     pub fn component(self, number: usize) -> usize
         requires { number < entry_count (sizes_of self) }
+        ensures at { result ≡ component_at self number }
         ensures value { result ≡ component_number (component_of (sizes_of self) (entry_at (sizes_of self) number)) }
         ensures below { result < 3 ^ rank_of_blocks (sizes_of self) }
     {
@@ -127,6 +128,7 @@ impl Blocks {
     /// The number of the entry to which a component belongs: it has the component's block numbers.
     pub fn entry_of(self, component: usize) -> usize
         requires { component < 3 ^ rank_of_blocks (sizes_of self) }
+        ensures value { result ≡ entry_of self component }
         ensures below { result < entry_count (sizes_of self) }
         ensures small { result < 36 }
         ensures numbers { entry_at (sizes_of self) result ≡ block_numbers (sizes_of self) (index_of (rank_of_blocks (sizes_of self)) component) }

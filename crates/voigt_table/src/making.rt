@@ -33,7 +33,7 @@ fn table_at<R: Rank>(
     ensures { (j : JahnSymbol) → IsShapeOf j R.R shape.now → TellsBlocks j (In group.now) (sizes_of blocks) weights result }
 {
     match solve(alloc, group, shape, &blocks.order()) {
-        Ok(form) => weighed_table(alloc, &form, blocks, weights),
+        Ok(form) => weighed_table(form, blocks, weights),
         Err(fault) => Err(fault),
     }
 }

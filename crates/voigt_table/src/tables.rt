@@ -9,25 +9,27 @@ use smallvec::SmallVec;
 use std::marker::Model;
 use tensor_defs::Weights;
 
-/// A Voigt table: its free entries, by their numbers, and the terms of each entry.
+/// A Voigt table: the component table in the order of blocks, with the rows of its entries' components weighted.
 #[derive(Drop)]
 pub struct VoigtTable {
     pub(crate) weights: Weights,
     pub(crate) blocks: Blocks,
-    pub(crate) free: Vec<u8>,
+    pub(crate) free: Vec<u16>,
     pub(crate) rows: Vec<SmallVec<Term, 2>>,
 }
 
 impl Model for VoigtTable {
-    ghost use Rattle.std.specs.Prelude.{map};
+    ghost use Rattle.std.specs.Prelude.{◌^◌, map};
+    ghost use Rattle.tensor_defs.specs.Voigt.{rank_of_blocks};
+    ghost use Rattle.reduced_form.specs.Forms.{IsForm};
     ghost use Rattle.voigt_table.specs.Blocks.{sizes_of};
-    ghost use Rattle.voigt_table.specs.Tables.{IsVoigtValue, VoigtValue};
+    ghost use Rattle.voigt_table.specs.Tables.{VoigtValue, kept_value};
 
     ghost Value = { VoigtValue };
 
-    ghost view = { λ t. record { weights = t.weights; sizes = sizes_of t.blocks; free = t.free.items; rows = map (λ row. row.items) t.rows.items } };
+    ghost view = { λ t. kept_value t.weights t.blocks t.free.items (map (λ row. row.items) t.rows.items) };
 
-    ghost invariant = { λ t. IsVoigtValue (record { weights = t.weights; sizes = sizes_of t.blocks; free = t.free.items; rows = map (λ row. row.items) t.rows.items }) };
+    ghost invariant = { λ t. IsForm (3 ^ rank_of_blocks (sizes_of t.blocks)) (record { free = t.free.items; rows = map (λ row. row.items) t.rows.items }) };
 }
 
 impl VoigtTable {
@@ -46,12 +48,22 @@ impl VoigtTable {
         self.blocks.entry(number)
     }
 
+    /// The number of the free entry at a place.
+    pub(crate) fn free_number(&self, place: usize) -> usize
+        requires { place < length self.now.free }
+        ensures is { result ≡ get_or self.now.free place 0 }
+        ensures below { result < entry_count self.now.sizes }
+        ensures small { result < 36 }
+    {
+        self.blocks.entry_of(self.free[place] as usize)
+    }
+
     /// The free entry at a place.
     pub(crate) fn free_entry(&self, place: usize) -> Entry
         requires { place < length self.now.free }
         ensures { numbers_of result ≡ entry_at self.now.sizes (get_or self.now.free place 0) }
     {
-        self.blocks.entry(self.free[place] as usize)
+        self.entry(self.free_number(place))
     }
 
     /// The terms of the entry of a number.
@@ -59,6 +71,6 @@ impl VoigtTable {
         requires { number < entry_count self.now.sizes }
         ensures { result.now ≡ row_at self.now.rows number }
     {
-        self.rows[number].as_slice()
+        self.rows[self.blocks.component(number)].as_slice()
     }
 }

@@ -156,9 +156,11 @@ fn write_sum(table: &VoigtTable, row: &[Term], out: &mut Vec<u8>) -> Result<(), 
 fn free_marks(table: &VoigtTable) -> [bool; 36]
     ensures { AreFreeMarks table.now result }
 {
+    // a field that is read brings the invariant into the proof
+    let _blocks = &table.blocks;
     let mut marks = [false; 36];
-    for place in 0..table.free.len() {
-        marks[table.free[place] as usize] = true;
+    for place in 0..table.free_count() {
+        marks[table.free_number(place)] = true;
     }
     marks
 }

@@ -3,7 +3,7 @@ use Rattle.tensor_defs.specs.Elimination.{Grows}
 use Rattle.tensor_defs.specs.Table.{Fits}
 use Rattle.magnetic_groups.specs.Sets.{In}
 use Rattle.tensor_rank.specs.Orders.{Ordering, before_of}
-use Rattle.reduced_form.specs.Forms.{FormValue, IsForm, form_table}
+use Rattle.reduced_form.specs.Forms.{FormValue, form_table}
 use Rattle.voigt_table.specs.Blocks.{sizes_of}
 use Rattle.voigt_table.proofs.EntryLaws.{blocks_are}
 use Rattle.voigt_table.proofs.TableLaws.{blocks_told, fault_told}
@@ -12,20 +12,16 @@ use Rattle.voigt_table.proofs.making.table_at.Goals as goal
 pub order-requires : goal.order-requires
 order-requires g c = blocks_are c.args.blocks g.R.Rank.R c.requires.blocks
 
-pub weighed_table-requires-clause-whole : goal.weighed_table-requires-clause-whole
-weighed_table-requires-clause-whole g c =
-    subst (λ (f : FormValue). IsForm g.R.Rank.LEN f) c.form.view_is c.form.invariant
-
 pub returns-in-Ok : goal.returns-in-Ok
 returns-in-Ok g c = λ j shape.
     let H = In c.args.group.now in
     let f : FormValue = c.in-Ok.form in
     let is = c.order.ensures in
     blocks_told j c.args.group.now g.R.Rank.R g.R.Rank.LEN c.args.blocks c.args.weights f shape.rank_is g.R.Rank.power
-    c.requires.blocks (subst (λ (v : FormValue). IsForm g.R.Rank.LEN v) c.form.view_is c.form.invariant)
+    c.requires.blocks c.weighed_table.ensures.whole
     (subst (λ (o : Ordering). Fits j H (before_of o) (form_table g.R.Rank.R f)) is (c.in-Ok.ensures.fits j shape))
     (subst (λ (o : Ordering). Grows j H (before_of o) → ⊥) is (c.in-Ok.ensures.calm j shape))
-    c.in-Ok.ensures.factors c.weighed_table.result c.weighed_table.ensures
+    c.in-Ok.ensures.factors c.weighed_table.result c.weighed_table.ensures.told
 
 pub returns-in-Err : goal.returns-in-Err
 returns-in-Err g c = λ j shape.

@@ -1,23 +1,49 @@
-use Rattle.std.proofs.Common.{◌<◌, ℕ, length, sym, ◌∙◌, subst}
-use Rattle.std.proofs.lemmas.List.{length-map}
-use Rattle.tensor_defs.specs.Lists.{Each}
-use Rattle.tensor_defs.specs.Tensor.{component_number}
-use Rattle.tensor_defs.specs.Voigt.{component_of}
-use Rattle.voigt_table.specs.Blocks.{entry_at, sizes_of}
-use Rattle.voigt_table.specs.Weighing.{entry_of_place, entry_terms}
-use Rattle.voigt_table.proofs.TableLaws.{component_small, zipped_named}
+use Rattle.std.proofs.Common.{◌^◌, ℕ, List, map, sym, ◌∙◌, subst}
+use Rattle.tensor_defs.specs.Voigt.{rank_of_blocks}
+use Rattle.reduced_form.specs.declared.forms.Term.{Term}
+use Rattle.reduced_form.specs.Forms.{FormValue, IsForm, row_at}
+use Rattle.voigt_table.specs.Blocks.{component_at, entry_at, entry_count, entry_of, sizes_of}
+use Rattle.voigt_table.specs.Tables.{kept_value}
+use Rattle.voigt_table.specs.Weighing.{AreWeighed, IsWeighed, WeighsTooMuch, entry_of_place}
+use Rattle.voigt_table.proofs.KeptLaws.{kept_over, kept_weighed, told_err, weighed_form}
 use Rattle.voigt_table.proofs.weighing.weighed_table.Goals as goal
 
+pub returns-in_err-weigh_rows-clause-told : goal.returns-in_err-weigh_rows-clause-told
+returns-in_err-weigh_rows-clause-told g c =
+    let b = c.args.blocks in
+    let w = c.args.weights in
+    let f : FormValue = c.args.form in
+    let given = c.into_parts-free.ensures in
+    told_err g.R.Rank.R w (sizes_of b) f c.from_residual.result c.in_err-weigh_rows.field-0.0 c.from_residual.ensures.1 (λ large.
+    let over = c.in_err-weigh_rows.ensures.grows large in
+    kept_over g.R.Rank.R g.R.Rank.LEN b w f c.requires g.R.Rank.power given.whole over.0 over.1
+    (subst (λ (fs : List ℕ). WeighsTooMuch w (entry_of_place (sizes_of b) (map (entry_of b) fs)) (entry_at (sizes_of b) over.0) (row_at f.rows (component_at b over.0)))
+    (c.deref.ensures.value ∙ given.free)
+    (subst (λ (rows : List (List Term)). WeighsTooMuch w (entry_of_place (sizes_of b) (map (entry_of b) c.deref.result.now)) (entry_at (sizes_of b) over.0) (row_at rows (component_at b over.0)))
+    given.rows over.2)))
+
 pub invariant_of-result : goal.invariant_of-result
-invariant_of-result g c = record {
-  len = length-map c.in_ok-rows.rows.items (λ row. row.items) ∙ c.in_ok-rows.ensures.len;
-  below = c.in_ok-free.ensures.below;
-  named = λ k l.
-      let bs = sizes_of c.args.blocks in
-      let n : ℕ = component_number (component_of bs (entry_at bs k)) in
-      let below : n < g.R.Rank.LEN = component_small c.args.blocks k l g.R.Rank.R g.R.Rank.LEN c.requires.rank g.R.Rank.power in
-      zipped_named c.args.weights (entry_of_place bs c.deref.result.now) (entry_at bs k) (length c.in_ok-free.free.items)
-      (entry_terms bs c.args.form.now k) _ (c.in_ok-rows.ensures.rows k l)
-      (subst (λ (m : ℕ). Each (λ t. t.free < m) (entry_terms bs c.args.form.now k)) (sym c.in_ok-free.ensures.len)
-      (c.requires.whole.named n below));
-}
+invariant_of-result g c =
+    let b = c.args.blocks in
+    let w = c.args.weights in
+    let f : FormValue = c.args.form in
+    let given = c.into_parts-free.ensures in
+    let rows : List (List Term) = map (λ row. row.items) c.weigh_rows.new.rows.items in
+    let told : AreWeighed b w f.free f.rows rows (entry_count (sizes_of b)) =
+    subst (λ (fs : List ℕ). AreWeighed b w fs f.rows rows (entry_count (sizes_of b))) (c.deref.ensures.value ∙ given.free)
+    (subst (λ (old : List (List Term)). AreWeighed b w c.deref.result.now old rows (entry_count (sizes_of b))) given.rows c.in_ok-weigh_rows.ensures.ok) in
+    subst (λ (fs : List ℕ). IsForm (3 ^ rank_of_blocks (sizes_of b)) (record { free = fs; rows = rows })) (sym given.free)
+    (weighed_form g.R.Rank.R g.R.Rank.LEN b w f c.requires g.R.Rank.power given.whole rows told)
+
+pub returns-clause-told : goal.returns-clause-told
+returns-clause-told g c =
+    let b = c.args.blocks in
+    let w = c.args.weights in
+    let f : FormValue = c.args.form in
+    let given = c.into_parts-free.ensures in
+    let rows : List (List Term) = map (λ row. row.items) c.weigh_rows.new.rows.items in
+    let told : AreWeighed b w f.free f.rows rows (entry_count (sizes_of b)) =
+    subst (λ (fs : List ℕ). AreWeighed b w fs f.rows rows (entry_count (sizes_of b))) (c.deref.ensures.value ∙ given.free)
+    (subst (λ (old : List (List Term)). AreWeighed b w c.deref.result.now old rows (entry_count (sizes_of b))) given.rows c.in_ok-weigh_rows.ensures.ok) in
+    subst (λ (fs : List ℕ). IsWeighed g.R.Rank.R w (sizes_of b) f (kept_value w b fs rows)) (sym given.free)
+    (kept_weighed g.R.Rank.R g.R.Rank.LEN b w f c.requires g.R.Rank.power given.whole rows told)

@@ -1,7 +1,8 @@
-use Rattle.std.proofs.Common.{◌≡◌, ◌≤◌, ℕ, zero, suc, List, false, arith, rules, length, get_or, replicate, refl, ap, sym, ◌∙◌, subst}
+use Rattle.std.proofs.Common.{◌≡◌, ℕ, zero, suc, false, arith, length, get_or, map, replicate, refl, ap, sym, subst}
 use Rattle.reduced_form.proofs.TextLaws.{IsMarkedUpTo, marks_start}
 use Rattle.voigt_table.specs.Blocks.{sizes_of}
 use Rattle.voigt_table.specs.Tables.{IsVoigtValue, VoigtValue}
+use Rattle.voigt_table.proofs.KeptLaws.{kept_whole}
 use Rattle.voigt_table.proofs.TextLaws.{marks_done}
 use Rattle.voigt_table.proofs.writing.free_marks.Goals as goal
 
@@ -16,13 +17,11 @@ loop-place-init c = record { marks = marks_start 36 c.args.table.now.free (repli
 pub returns : goal.returns
 returns c =
     let v : VoigtValue = c.args.table.now in
-    let b = c.table.inside.blocks in
-    let items : List ℕ = c.table.inside.free.items in
-    let sizes : v.sizes ≡ sizes_of b = ap (λ x. x.sizes) (sym c.table.view_is) in
-    let own : items ≡ v.free = ap (λ x. x.free) c.table.view_is in
-    let whole : IsVoigtValue v = subst (λ (x : VoigtValue). IsVoigtValue x) c.table.view_is c.table.invariant in
-    let end : length items ≤ c.loop-place.place = search rules in
-    let within : c.loop-place.place ≤ length items = search rules in
-    let stop : c.loop-place.place ≡ length items = omega (arith, end, within) in
-    marks_done b v c.loop-place.marks sizes whole.below
-    (subst (λ (p : ℕ). IsMarkedUpTo 36 v.free p c.loop-place.marks) (stop ∙ ap length own) c.loop-place.invariant.marks)
+    let t = c.table.inside in
+    let sizes : v.sizes ≡ sizes_of t.blocks = ap (λ x. x.sizes) (sym c.table.view_is) in
+    let whole : IsVoigtValue v =
+    subst (λ (x : VoigtValue). IsVoigtValue x) c.table.view_is
+    (kept_whole t.blocks t.weights t.free.items (map (λ row. row.items) t.rows.items) c.table.invariant) in
+    let stop : c.loop-place.place ≡ length v.free = omega (arith, c.loop-place-test.false, c.free_count-place-end.ensures) in
+    marks_done t.blocks v c.loop-place.marks sizes whole.below
+    (subst (λ (p : ℕ). IsMarkedUpTo 36 v.free p c.loop-place.marks) stop c.loop-place.invariant.marks)
