@@ -4,25 +4,12 @@
 --   same_class          a class is told by its least state
 --   one_class_list      the classes are told by the two groups and the states
 --   one_pairs_lem       a request for pair classes has one answer, where the second group is below the first
-use Rattle.std.proofs.Common.{◌≡◌, ℕ, ◌-◌, ◌<◌, ◌≤◌, true, List, [], ◌∷◌, ◌++◌, length, refl}
-use Rattle.std.proofs.Common.{ap, sym, ◌∙◌, arith, inl, inr, subst}
+use Rattle.list_laws.proofs.Kit.{◌≡◌, ℕ, ◌-◌, ◌<◌, ◌≤◌, true, List, [], ◌∷◌, ◌++◌, length, refl, ap, sym, ◌∙◌, arith, inl, inr, subst, nat_tests}
 use Rattle.std.specs.Prelude.{Option, Some, None, Contains, IsTrue, nat_lt, get_or, ◌↔◌}
-use Rattle.std.proofs.lemmas.Bool.Decides.{nat_tests}
-use Rattle.list_laws.proofs.Lists.{held_here, held_cases, heads, tails}
-use Rattle.list_laws.proofs.Members.{each_held, each_found}
-use Rattle.list_laws.proofs.Rising.{rising_same}
-use Rattle.list_laws.proofs.Tests.{same_truth}
-use Rattle.tensor_defs.specs.Group.{InGroup, IsBelow}
-use Rattle.tensor_defs.specs.Lists.{Each, IsRising, IsListing}
-use Rattle.tensor_defs.specs.Names.{IsNamed, IsNameOf}
-use Rattle.tensor_defs.specs.Operation.{Operation, IsProduct, identity}
-use Rattle.tensor_defs.specs.OperationOrder.{comes_before}
-use Rattle.tensor_defs.specs.PairClasses.{PairClass, IsPairClass, least_before, ArePairClasses}
-use Rattle.tensor_defs.specs.States.{InDouble, IsState, IsSwappable, InPairGroup, InTwinningGroup}
-use Rattle.tensor_defs.specs.Symbols.{GroupSymbol}
-use Rattle.tensor_laws.proofs.Associativity.{product_assoc, product_assoc_back}
-use Rattle.tensor_laws.proofs.States.{one_state, state_at}
-use Rattle.tensor_laws.proofs.Groups.{IsGroup, one_times, times_one}
+use Rattle.list_laws.proofs.Prelude.{held_here, held_cases, heads, tails, each_held, each_found, rising_same, same_truth}
+use Rattle.tensor_defs.specs.Prelude.{InGroup, IsBelow, Each, IsRising, IsListing, IsNamed, IsNameOf, Operation, IsProduct, identity, comes_before, PairClass}
+use Rattle.tensor_defs.specs.Prelude.{IsPairClass, least_before, ArePairClasses, InDouble, IsState, IsSwappable, InPairGroup, InTwinningGroup, GroupSymbol}
+use Rattle.tensor_laws.proofs.Prelude.{product_assoc, product_assoc_back, one_state, state_at, IsGroup, one_times, times_one}
 use Rattle.text_defs.specs.AnswerTexts.{pairs_text}
 use Rattle.answer_laws.proofs.DomainStates.{one_state_list}
 use Rattle.answer_laws.proofs.Groups.{symbol_group}

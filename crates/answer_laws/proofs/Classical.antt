@@ -3,18 +3,11 @@
 --   text_stable         two texts that are not different are the same
 --   listed_or           a group of a symbol doesn't lack a listing
 --   outside_or_below    a group isn't both not below another and without a first element outside
-use Rattle.std.proofs.Common.{◌≡◌, ℕ, ◌+◌, arith, Bool, true, false, eqb, ◌≢◌, List, [], ◌∷◌, ◌++◌, length, refl, sym}
-use Rattle.std.proofs.Common.{◌⊎◌, inl, inr, subst}
+use Rattle.list_laws.proofs.Kit.{◌≡◌, ℕ, ◌+◌, arith, Bool, true, false, eqb, ◌≢◌, List, [], ◌∷◌, ◌++◌, length, refl, sym, ◌⊎◌, inl, inr, subst, eqb_tells}
+use Rattle.list_laws.proofs.Kit.{get_or-replicate}
 use Rattle.std.specs.Prelude.{Contains, IsTrue, replicate}
-use Rattle.std.proofs.lemmas.Bool.Decides.{eqb_tells}
-use Rattle.std.proofs.lemmas.List.{get_or-replicate}
-use Rattle.list_laws.proofs.Lists.{heads, tails, held_here, held_later, held_cases, none_held}
-use Rattle.list_laws.proofs.Members.{each_held, each_from}
-use Rattle.tensor_defs.specs.Group.{InGroup, IsBelow}
-use Rattle.tensor_defs.specs.Lists.{Each, IsRising, IsListing}
-use Rattle.tensor_defs.specs.Operation.{Operation}
-use Rattle.tensor_defs.specs.OperationOrder.{comes_before}
-use Rattle.tensor_defs.specs.Symbols.{GroupSymbol, IsGroupSymbol}
+use Rattle.list_laws.proofs.Prelude.{heads, tails, held_here, held_later, held_cases, none_held, each_held, each_from}
+use Rattle.tensor_defs.specs.Prelude.{InGroup, IsBelow, Each, IsRising, IsListing, Operation, comes_before, GroupSymbol, IsGroupSymbol}
 use Rattle.text_defs.specs.Refusals.{IsOutside}
 use Rattle.op_matrix.specs.Table.{place}
 use Rattle.op_matrix.proofs.Listed.{Placed}

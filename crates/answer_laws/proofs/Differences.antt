@@ -3,32 +3,15 @@
 --   row_terms_same      a row has its terms in one way
 --   state_texts_same    the texts of states are told by the states and the table
 --   one_differ_lem      a request for distinguishing components has one answer
-use Rattle.std.proofs.Common.{◌≡◌, ℕ, ◌+◌, ◌<◌, ◌^◌, List, [], ◌∷◌, ◌++◌, length, drop, ap, sym, ◌∙◌, arith, subst}
+use Rattle.list_laws.proofs.Kit.{◌≡◌, ℕ, ◌+◌, ◌<◌, ◌^◌, List, [], ◌∷◌, ◌++◌, length, drop, ap, sym, ◌∙◌, arith, subst, flat_map, decimal, nat_tests}
 use Rattle.std.specs.Prelude.{◌≢◌, true, map, codes, IsTrue, Contains, nat_lt}
-use Rattle.std.specs.List.{flat_map}
-use Rattle.std.specs.Fmt.{decimal}
-use Rattle.std.proofs.lemmas.Bool.Decides.{nat_tests}
-use Rattle.list_laws.proofs.Members.{each_map, each_held, each_from}
-use Rattle.list_laws.proofs.Rising.{rising_same, listing_same}
-use Rattle.tensor_defs.specs.Group.{InGroup}
-use Rattle.tensor_defs.specs.Jahn.{JahnSymbol, rank}
-use Rattle.tensor_defs.specs.Lists.{Each}
-use Rattle.tensor_defs.specs.Number.{mul, num_zero, IsRoot3}
-use Rattle.tensor_defs.specs.Operation.{Operation}
-use Rattle.tensor_defs.specs.Orders.{index_before}
-use Rattle.tensor_defs.specs.StateRows.{factor_at, state_part, state_row, RootTerm, root_places_rise, IsStateRow}
-use Rattle.tensor_defs.specs.StateRows.{Distinguishes}
-use Rattle.tensor_defs.specs.Symbols.{GroupSymbol, IsGroupSymbol}
-use Rattle.tensor_defs.specs.Table.{Table}
-use Rattle.tensor_defs.specs.Tensor.{Index, Marks, indices, sign, coefficient}
-use Rattle.tensor_laws.proofs.IndexOrder.{index_order}
-use Rattle.tensor_laws.proofs.Unique.{same_free, same_terms}
-use Rattle.tensor_laws.proofs.Agreeing.{sum_of-same}
-use Rattle.text_defs.specs.AnswerTexts.{line_of, equation, component_name, named_roots, state_text}
-use Rattle.text_defs.specs.AnswerTexts.{or_none}
-use Rattle.text_defs.specs.GroupTexts.{group_text}
-use Rattle.text_defs.specs.JahnTexts.{jahn_text}
-use Rattle.text_defs.specs.Answers.{IsStateText, AreStateTexts, IsDifferText}
+use Rattle.list_laws.proofs.Prelude.{each_map, each_held, each_from, rising_same, listing_same}
+use Rattle.tensor_defs.specs.Prelude.{InGroup, JahnSymbol, rank, Each, mul, num_zero, IsRoot3, Operation, index_before, factor_at, state_part, state_row}
+use Rattle.tensor_defs.specs.Prelude.{RootTerm, root_places_rise, IsStateRow, Distinguishes, GroupSymbol, IsGroupSymbol, Table, Index, Marks, indices, sign}
+use Rattle.tensor_defs.specs.Prelude.{coefficient}
+use Rattle.tensor_laws.proofs.Prelude.{index_order, same_free, same_terms, sum_of-same}
+use Rattle.text_defs.specs.Prelude.{line_of, equation, component_name, named_roots, state_text, or_none, group_text, jahn_text, IsStateText, AreStateTexts}
+use Rattle.text_defs.specs.Prelude.{IsDifferText}
 use Rattle.answer_laws.proofs.DomainStates.{one_state_list}
 use Rattle.answer_laws.proofs.Forms.{flat_map_same, indices_of_rank, joined_same}
 use Rattle.answer_laws.proofs.Groups.{symbol_group}

@@ -2,18 +2,12 @@
 --   same_operation      operations are the same, or they aren't
 --   one_state_list      the states are told by the two sets, where the second is a group
 --   one_states_lem      a request for states has one answer
-use Rattle.std.proofs.Common.{◌≡◌, ◌≢◌, ℕ, Bool, true, false, List, refl, ap, sym, ◌∙◌, ◌⊎◌, inl, inr, subst}
+use Rattle.list_laws.proofs.Kit.{◌≡◌, ◌≢◌, ℕ, Bool, true, false, List, refl, ap, sym, ◌∙◌, ◌⊎◌, inl, inr, subst, eqb_tells}
 use Rattle.std.specs.Prelude.{Contains, IsTrue}
-use Rattle.std.proofs.lemmas.Bool.Decides.{eqb_tells}
 use lib.IntN.{ℤ, pos, negsuc}
-use Rattle.list_laws.proofs.Members.{each_held}
-use Rattle.list_laws.proofs.Rising.{rising_same}
-use Rattle.tensor_defs.specs.Group.{InGroup}
-use Rattle.tensor_defs.specs.Operation.{Entry, Row, Operation, identity}
-use Rattle.tensor_defs.specs.OperationOrder.{comes_before}
-use Rattle.tensor_defs.specs.States.{Times, AreStates}
-use Rattle.tensor_laws.proofs.Associativity.{product_assoc_back}
-use Rattle.tensor_laws.proofs.Groups.{IsGroup, times_one}
+use Rattle.list_laws.proofs.Prelude.{each_held, rising_same}
+use Rattle.tensor_defs.specs.Prelude.{InGroup, Entry, Row, Operation, identity, comes_before, Times, AreStates}
+use Rattle.tensor_laws.proofs.Prelude.{product_assoc_back, IsGroup, times_one}
 use Rattle.text_defs.specs.AnswerTexts.{states_text}
 use Rattle.answer_laws.proofs.Groups.{symbol_group}
 use Rattle.answer_laws.proofs.Listings.{before_irreflexive, before_transitive}

@@ -4,27 +4,13 @@
 --   component_line_same, form_text_same    tables with the same parts have the same lines
 --   joined_same         answers joined from answers that are each told by the symbol
 --   one_form_lem        a request for forms has one answer
-use Rattle.std.proofs.Common.{◌≡◌, ℕ, zero, suc, List, [], ◌∷◌, ◌++◌, length, refl, ap, sym, ◌∙◌}
+use Rattle.list_laws.proofs.Kit.{◌≡◌, ℕ, zero, suc, List, [], ◌∷◌, ◌++◌, length, refl, ap, sym, ◌∙◌, flat_map, decimal}
 use Rattle.std.specs.Prelude.{map, codes, ◌^◌}
-use Rattle.std.specs.List.{flat_map}
-use Rattle.std.specs.Fmt.{decimal}
 use Rattle.list_laws.proofs.Members.{each_map, each_append}
-use Rattle.tensor_defs.specs.Group.{InGroup}
-use Rattle.tensor_defs.specs.Jahn.{JahnSymbol, rank}
-use Rattle.tensor_defs.specs.Lists.{Each}
-use Rattle.tensor_defs.specs.Operation.{Axis, x1, x2, x3}
-use Rattle.tensor_defs.specs.Orders.{index_before}
-use Rattle.tensor_defs.specs.Symbols.{GroupSymbol}
-use Rattle.tensor_defs.specs.Table.{Table}
-use Rattle.tensor_defs.specs.Tensor.{Index, indices}
-use Rattle.tensor_laws.proofs.IndexOrder.{index_order}
-use Rattle.tensor_laws.proofs.Unique.{same_free, same_terms}
-use Rattle.text_defs.specs.AnswerTexts.{line_of, row_text, has_index, component_name, named, component_line, table_text}
-use Rattle.text_defs.specs.AnswerTexts.{form_text}
-use Rattle.text_defs.specs.Answers.{IsFormText, AreJoined}
-use Rattle.text_defs.specs.GroupTexts.{group_text}
-use Rattle.text_defs.specs.JahnTexts.{jahn_text}
-use Rattle.text_defs.specs.Requests.{JahnAt}
+use Rattle.tensor_defs.specs.Prelude.{InGroup, JahnSymbol, rank, Each, Axis, x1, x2, x3, index_before, GroupSymbol, Table, Index, indices}
+use Rattle.tensor_laws.proofs.Prelude.{index_order, same_free, same_terms}
+use Rattle.text_defs.specs.Prelude.{line_of, row_text, has_index, component_name, named, component_line, table_text, form_text, IsFormText, AreJoined}
+use Rattle.text_defs.specs.Prelude.{group_text, jahn_text, JahnAt}
 use Rattle.answer_laws.specs.Laws.{OneForm}
 
 pub flat_map_same : {X : Type 0} (f g : X → List ℕ) (xs : List X) → Each (λ x. f x ≡ g x) xs →

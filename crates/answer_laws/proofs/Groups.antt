@@ -3,9 +3,7 @@
 --   symbol_placed       each of them has its place among the 128 operations
 --   spelled_symbol      a text spells symbols that keep the rules
 use Rattle.std.proofs.Common.{ℕ, List, inl, inr, refl, sym, subst, lit<, lit≤}
-use Rattle.tensor_defs.specs.Group.{InGroup}
-use Rattle.tensor_defs.specs.Operation.{Operation, IsProduct}
-use Rattle.tensor_defs.specs.Symbols.{generators, parent_operators, GroupSymbol, IsGroupSymbol}
+use Rattle.tensor_defs.specs.Prelude.{InGroup, Operation, IsProduct, generators, parent_operators, GroupSymbol, IsGroupSymbol}
 use Rattle.tensor_laws.proofs.Groups.{IsGroup}
 use Rattle.text_defs.specs.GroupTexts.{SpellsGroup, grey_one}
 use Rattle.op_matrix.specs.View.{hex_frame, plain_frame}

@@ -2,16 +2,12 @@
 --   one_answer_by       a line has one answer where its request has one
 --   below_unrefused     the second group of a request for classes that isn't refused is below the first
 --   one_answer_lem      a line of a format and a number has one answer
-use Rattle.std.proofs.Common.{◌≡◌, ℕ, ◌+◌, ◌≤◌, List, [], ◌∷◌, length, refl, sym, ◌∙◌, ◌⊎◌, inl, inr, subst}
-use Rattle.std.proofs.lemmas.Bool.{cases_lt}
-use Rattle.tensor_defs.specs.Group.{InGroup, IsAccepted, IsBelow}
-use Rattle.tensor_defs.specs.Lists.{Each}
-use Rattle.tensor_defs.specs.Symbols.{IsGroupSymbol}
-use Rattle.text_defs.specs.Answers.{AnswersRequest, IsAnswer}
-use Rattle.text_defs.specs.Refusals.{RefusalWord, Long, Primes, NotSub, FirstRefused, Refuses, refusal_text}
+use Rattle.list_laws.proofs.Kit.{◌≡◌, ℕ, ◌+◌, ◌≤◌, List, [], ◌∷◌, length, refl, sym, ◌∙◌, ◌⊎◌, inl, inr, subst, cases_lt}
+use Rattle.tensor_defs.specs.Prelude.{InGroup, IsAccepted, IsBelow, Each, IsGroupSymbol}
+use Rattle.text_defs.specs.Prelude.{AnswersRequest, IsAnswer, RefusalWord, FirstRefused, Refuses, refusal_text, GroupAt, Request, SpellsRequest, longest_line}
+use Rattle.text_defs.specs.Prelude.{Form, Group, Voigt, States, Pairs, Differ, Same, Comment}
+use Rattle.text_defs.specs.Refusals.{Long, Primes, NotSub}
 use Rattle.text_defs.specs.declared.Format.{Format}
-use Rattle.text_defs.specs.Requests.{GroupAt, Request, SpellsRequest, longest_line}
-use Rattle.text_defs.specs.Requests.Request.{Form, Group, Voigt, States, Pairs, Differ, Same, Comment}
 use Rattle.text_laws.proofs.RequestUnique.{one_request_spelled}
 use Rattle.answer_laws.proofs.Classes.{one_pairs_lem}
 use Rattle.answer_laws.proofs.Classical.{NotFalse, either, text_stable, outside_or_below}

@@ -5,10 +5,7 @@
 use Rattle.std.proofs.Common.{◌≡◌, List}
 use Rattle.std.specs.Prelude.{IsTrue}
 use Rattle.list_laws.proofs.Rising.{listing_same}
-use Rattle.tensor_defs.specs.Group.{InGroup}
-use Rattle.tensor_defs.specs.Lists.{IsListing}
-use Rattle.tensor_defs.specs.Operation.{Operation}
-use Rattle.tensor_defs.specs.OperationOrder.{comes_before, places}
+use Rattle.tensor_defs.specs.Prelude.{InGroup, IsListing, Operation, comes_before, places}
 use Rattle.tensor_laws.proofs.BlockOrder.{lexicographic_irreflexive, lexicographic_transitive}
 use Rattle.answer_laws.specs.Laws.{OneListing}
 

@@ -4,22 +4,14 @@
 --   one_first           the first Jahn word of which a fact holds stands at one column
 --   one_refusal_of      at most one refusal applies to a request
 --   one_refusal_lem     at most one refusal applies to a line of a format
-use Rattle.std.proofs.Common.{◌≡◌, ℕ, suc, ◌+◌, ◌<◌, ◌≤◌, List, [], ◌∷◌, ◌++◌, length, refl, ap, sym, ◌∙◌, arith, inl}
-use Rattle.std.proofs.Common.{inr, subst}
-use Rattle.std.proofs.lemmas.Bool.{cases_lt}
+use Rattle.list_laws.proofs.Kit.{◌≡◌, ℕ, suc, ◌+◌, ◌<◌, ◌≤◌, List, [], ◌∷◌, ◌++◌, length, refl, ap, sym, ◌∙◌, arith, inl, inr, subst, cases_lt}
 use Rattle.list_laws.proofs.Lists.{heads, tails}
-use Rattle.tensor_defs.specs.Group.{InGroup, IsAccepted}
-use Rattle.tensor_defs.specs.Jahn.{rank}
-use Rattle.tensor_defs.specs.Lists.{Each}
-use Rattle.tensor_defs.specs.Operation.{Operation}
-use Rattle.tensor_defs.specs.Symbols.{GroupSymbol}
-use Rattle.text_defs.specs.Languages.{IsFaulty}
-use Rattle.text_defs.specs.Refusals.{RefusalWord, Long, Syntax, Primes, Rank, Shape, NotSub, TooLarge, FirstRefused}
-use Rattle.text_defs.specs.Refusals.{HasOtherShape, HasShape, IsOutside, IsNotSub, RefusesRequest}
-use Rattle.text_defs.specs.Refusals.{Refuses, FirstAt, JahnGrows, jahns_of, groups_of}
+use Rattle.tensor_defs.specs.Prelude.{InGroup, IsAccepted, rank, Each, Operation, GroupSymbol}
+use Rattle.text_defs.specs.Prelude.{IsFaulty, RefusalWord, FirstRefused, HasOtherShape, HasShape, IsOutside, IsNotSub, RefusesRequest, Refuses, FirstAt}
+use Rattle.text_defs.specs.Prelude.{JahnGrows, jahns_of, groups_of, GroupAt, JahnAt, Request, SpellsRequest, longest_line, Form, Group, Voigt, States, Pairs}
+use Rattle.text_defs.specs.Prelude.{Differ, Same, Comment}
+use Rattle.text_defs.specs.Refusals.{Long, Syntax, Primes, Rank, Shape, NotSub, TooLarge}
 use Rattle.text_defs.specs.declared.Format.{Format}
-use Rattle.text_defs.specs.Requests.{GroupAt, JahnAt, Request, SpellsRequest, longest_line}
-use Rattle.text_defs.specs.Requests.Request.{Form, Group, Voigt, States, Pairs, Differ, Same, Comment}
 use Rattle.text_laws.proofs.RequestUnique.{one_request_spelled}
 use Rattle.answer_laws.proofs.Listings.{one_listing_lem}
 use Rattle.answer_laws.specs.Laws.{OneRefusal}

@@ -4,9 +4,8 @@ use lib.IntN.{ℤ, pos, ◌+ℤ◌, ◌*ℤ◌, *ℤ_comm, +ℤ_idr, +ℤ_comm}
 use Rattle.number_laws.proofs.Fractions.{over-fraction, zero_times}
 use Rattle.number_laws.proofs.Gauss.{lowest_same}
 use Rattle.number_laws.proofs.Sameness.{numbers_are_same_lem}
-use Rattle.tensor_defs.specs.IntRing.{ring_ℤ, mul-zero_ℤ, mul-cancel_ℤ, positive_mul}
-use Rattle.tensor_defs.specs.Number.{Number, Same, Triple, number_of, add, mul, add_triple, mul_triple, add_at, mul_at}
-use Rattle.tensor_defs.specs.Number.{fraction, half_of, root_3, Fraction, IsLowest, Root3, IsRoot3}
+use Rattle.tensor_defs.specs.Prelude.{ring_ℤ, mul-zero_ℤ, mul-cancel_ℤ, positive_mul, Number, Same, Triple, number_of, add, mul, add_triple, mul_triple}
+use Rattle.tensor_defs.specs.Prelude.{add_at, mul_at, fraction, half_of, root_3, Fraction, IsLowest, Root3, IsRoot3}
 
 zero_plus : (z : ℤ) → pos 0 +ℤ z ≡ z
 zero_plus z = +ℤ_comm (pos 0) z ∙ +ℤ_idr z

@@ -3,29 +3,17 @@
 --   one_blocks          a symbol has its blocks in one way
 --   weighted_same       the terms of an entry are told by those of its component
 --   one_voigt_lem       a request for a Voigt table has one answer
-use Rattle.std.proofs.Common.{◌≡◌, ℕ, Bool, true, false, cond, List, [], ◌∷◌, ◌++◌, length, replicate, get_or, refl, ap, sym}
-use Rattle.std.proofs.Common.{◌∙◌, subst}
+use Rattle.list_laws.proofs.Kit.{◌≡◌, ℕ, Bool, true, false, cond, List, [], ◌∷◌, ◌++◌, length, replicate, get_or, refl, ap, sym, ◌∙◌, subst, flat_map}
+use Rattle.list_laws.proofs.Kit.{decimal}
 use Rattle.std.specs.Prelude.{map, codes, nat_eq, Contains}
-use Rattle.std.specs.List.{flat_map}
-use Rattle.std.specs.Fmt.{decimal}
 use Rattle.list_laws.proofs.Members.{each_held, each_from}
 use Rattle.number_laws.proofs.Limit.{one_fraction}
 use Rattle.tensor_defs.specs.declared.Weights.{Weights}
-use Rattle.tensor_defs.specs.Group.{InGroup}
-use Rattle.tensor_defs.specs.Jahn.{Atom, V, Bracketed, Factor, JahnSymbol, rank, factors_rank}
-use Rattle.tensor_defs.specs.Lists.{Each}
-use Rattle.tensor_defs.specs.Operation.{Operation}
-use Rattle.tensor_defs.specs.Symbols.{GroupSymbol}
-use Rattle.tensor_defs.specs.Table.{Term, Table, factor_of}
-use Rattle.tensor_defs.specs.Orders.{block_numbers, block_before}
-use Rattle.tensor_defs.specs.Voigt.{VoigtShape, voigt_shapes, HasBlocks, VoigtEntry, entries, rank_of_blocks, component_of}
-use Rattle.tensor_defs.specs.Voigt.{weighted, AreWeighted, VoigtTable, IsVoigtTable}
-use Rattle.tensor_laws.proofs.BlockOrder.{block_order}
-use Rattle.tensor_laws.proofs.Products.{nat_eq_means}
-use Rattle.tensor_laws.proofs.Unique.{same_free, same_terms}
-use Rattle.text_defs.specs.AnswerTexts.{line_of, row_text, weights_word, has_entry, entry_name, named, entry_line, voigt_text}
-use Rattle.text_defs.specs.GroupTexts.{group_text}
-use Rattle.text_defs.specs.JahnTexts.{jahn_text}
+use Rattle.tensor_defs.specs.Prelude.{InGroup, Atom, V, Bracketed, Factor, JahnSymbol, rank, factors_rank, Each, Operation, GroupSymbol, Term, Table}
+use Rattle.tensor_defs.specs.Prelude.{factor_of, block_numbers, block_before, VoigtShape, voigt_shapes, HasBlocks, VoigtEntry, entries, rank_of_blocks}
+use Rattle.tensor_defs.specs.Prelude.{component_of, weighted, AreWeighted, VoigtTable, IsVoigtTable}
+use Rattle.tensor_laws.proofs.Prelude.{block_order, nat_eq_means, same_free, same_terms}
+use Rattle.text_defs.specs.Prelude.{line_of, row_text, weights_word, has_entry, entry_name, named, entry_line, voigt_text, group_text, jahn_text}
 use Rattle.answer_laws.proofs.Forms.{flat_map_same}
 use Rattle.answer_laws.specs.Laws.{OneVoigt}
 

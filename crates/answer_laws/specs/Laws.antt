@@ -12,17 +12,10 @@
 --   OneOutput       an input has one output: the answers of its lines
 use Rattle.std.specs.Prelude.{◌≡◌, ℕ, List}
 use Rattle.tensor_defs.specs.declared.Weights.{Weights}
-use Rattle.tensor_defs.specs.Lists.{IsListing}
-use Rattle.tensor_defs.specs.Operation.{Operation}
-use Rattle.tensor_defs.specs.OperationOrder.{comes_before}
-use Rattle.tensor_defs.specs.Group.{InGroup, IsBelow}
-use Rattle.tensor_defs.specs.Symbols.{GroupSymbol, IsGroupSymbol}
+use Rattle.tensor_defs.specs.Prelude.{IsListing, Operation, comes_before, InGroup, IsBelow, GroupSymbol, IsGroupSymbol}
 use Rattle.text_defs.specs.declared.Format.{Format}
-use Rattle.text_defs.specs.Answers.{AnswersRequest, IsAnswer}
-use Rattle.text_defs.specs.Lines.{AreAnswersOf}
-use Rattle.text_defs.specs.Refusals.{RefusalWord, Refuses}
-use Rattle.text_defs.specs.Requests.{GroupAt, JahnAt, Request}
-use Rattle.text_defs.specs.Requests.Request.{Form, Group, Voigt, States, Pairs, Differ, Same}
+use Rattle.text_defs.specs.Prelude.{AnswersRequest, IsAnswer, AreAnswersOf, RefusalWord, Refuses, GroupAt, JahnAt, Request, Form, Group, Voigt, States, Pairs}
+use Rattle.text_defs.specs.Prelude.{Differ, Same}
 
 abbrev pub OneListing : Type 0
 OneListing =

@@ -10,8 +10,7 @@ use Rattle.std.specs.Fmt.{digits, decimal}
 use Rattle.std.proofs.lemmas.List.{drop_more}
 use Rattle.tensor_defs.specs.Operation.{Operation}
 use Rattle.op_matrix.specs.Table.{matrices, nth, nth_operation, operation_at}
-use Rattle.text_defs.specs.AnswerTexts.{line_of, numbered, operation_text}
-use Rattle.text_defs.specs.NumberTexts.{spaced}
+use Rattle.text_defs.specs.Prelude.{line_of, numbered, operation_text, spaced}
 use Rattle.answer_writers.specs.Rows.{ending_of, matrix_text, IsLonger}
 use Rattle.answer_writers.specs.declared.texts.TheConstants.{TEXTS}
 

@@ -4,8 +4,7 @@
 --   IsLonger        a list that begins with another
 use Rattle.std.specs.Prelude.{◌≡◌, ℕ, Bool, true, false, List, [], ◌∷◌, ◌++◌, codes}
 use Rattle.tensor_defs.specs.Operation.{Operation}
-use Rattle.text_defs.specs.AnswerTexts.{row_entries}
-use Rattle.text_defs.specs.NumberTexts.{spaced}
+use Rattle.text_defs.specs.Prelude.{row_entries, spaced}
 
 abbrev pub matrix_text : Operation → List ℕ
 matrix_text g = spaced (row_entries g.row_1 ++ (row_entries g.row_2 ++ row_entries g.row_3))

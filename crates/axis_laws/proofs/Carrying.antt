@@ -3,18 +3,13 @@
 use Rattle.std.proofs.Common.{◌≡◌, ◌≢◌, ℕ, zero, suc, ◌<◌, Bool, true, false, cond, List, [], length, get_or, refl, ap, sym, ◌∙◌, arith, inl, inr}
 use Rattle.std.proofs.lemmas.Bool.{cases_eq, lt-ltb}
 use Rattle.std.specs.Prelude.{Some, None}
-use Rattle.list_laws.proofs.Rising.{rising_apart}
-use Rattle.tensor_laws.proofs.Indices.{same_own, same_told}
-use Rattle.list_laws.proofs.Lists.{option_cases, held_place}
+use Rattle.list_laws.proofs.Prelude.{rising_apart, option_cases, held_place}
+use Rattle.tensor_laws.proofs.Prelude.{same_own, same_told, sum_indices-add, sum_indices-mul, sum_indices-same, sum_indices-agree}
 use Rattle.number_laws.proofs.NumberLaws.{num_add-zero, num_zero-add, num_zero-mul, num_mul-zero, num_mul_assoc, num_mul_comm}
 use Rattle.sparse_rows.proofs.Lines.{dot-zero}
 use Rattle.sparse_rows.specs.Solutions.{dot}
-use Rattle.tensor_defs.specs.Elimination.{Line, Carrier, AreUnknowns, share, by_place, carried}
-use Rattle.tensor_defs.specs.Number.{Number, add, mul, num_zero, num_one}
-use Rattle.tensor_defs.specs.Orders.{IsOrder}
-use Rattle.tensor_defs.specs.Tensor.{Index, Tensor, same_index, sum_indices}
-use Rattle.tensor_laws.proofs.Action.{sum_indices-add, sum_indices-mul, sum_indices-same}
-use Rattle.tensor_laws.proofs.Agreeing.{sum_indices-agree}
+use Rattle.tensor_defs.specs.Prelude.{Line, Carrier, AreUnknowns, share, by_place, carried, Number, add, mul, num_zero, num_one, IsOrder, Index, Tensor}
+use Rattle.tensor_defs.specs.Prelude.{same_index, sum_indices}
 
 share-own : (d : Index) (s k : Number) → share (Some (d, s)) k d ≡ mul s k
 share-own d s k = ap (λ b. cond b (mul s k) num_zero) (same_own d)

@@ -1,13 +1,9 @@
 -- A diagonal operation multiplies each component by 1 or -1.
 use Rattle.std.proofs.Common.{◌≡◌, ◌≢◌, Bool, true, false, [], ◌∷◌, refl, ap, sym, ◌∙◌, inl, inr}
 use Rattle.number_laws.proofs.NumberLaws.{num_mul_assoc, num_add-zero, num_zero-add, num_zero-mul, num_mul-zero, num_one-mul}
-use Rattle.tensor_defs.specs.Elimination.{IsSign}
-use Rattle.tensor_defs.specs.Frames.{IsUnit, IsDiagonal}
-use Rattle.tensor_defs.specs.Number.{Number, add, mul, neg, num_zero, half_of}
-use Rattle.tensor_defs.specs.Operation.{Axis, x1, x2, x3, sum_axes, Entry, Operation, entry, value, determinant}
-use Rattle.tensor_defs.specs.Tensor.{Index, Tensor, Marks, axial_sign, time_sign, sign, coefficient, act}
-use Rattle.tensor_laws.proofs.Action.{turned, turned-cons, turned-nil}
-use Rattle.tensor_laws.proofs.ActionLaws.{act-turned, half_of_two, half_of_none, half_of_minus_two}
+use Rattle.tensor_defs.specs.Prelude.{IsSign, IsUnit, IsDiagonal, Number, add, mul, neg, num_zero, half_of, Axis, x1, x2, x3, sum_axes, Entry, Operation}
+use Rattle.tensor_defs.specs.Prelude.{entry, value, determinant, Index, Tensor, Marks, axial_sign, time_sign, sign, coefficient, act}
+use Rattle.tensor_laws.proofs.Prelude.{turned, turned-cons, turned-nil, act-turned, half_of_two, half_of_none, half_of_minus_two}
 use Rattle.axis_laws.proofs.Signs.{sign_mul}
 
 -- ---- entries

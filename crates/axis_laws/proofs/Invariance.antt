@@ -2,22 +2,13 @@
 --   rows_decide_invariance_lem    both ways
 use Rattle.std.proofs.Common.{◌≡◌, ℕ, true, false, Bool, List, [], ◌∷◌, length, get_or, refl, ap, sym, ◌∙◌, inl, inr}
 use Rattle.std.specs.Prelude.{◌↔◌, Some, None, Contains, filter}
-use Rattle.tensor_laws.proofs.ThreeFold.{three_determinant}
+use Rattle.tensor_laws.proofs.Prelude.{three_determinant, turned, act-turned, rows_decide_lem}
 use Rattle.number_laws.proofs.NumberLaws.{num_mul-one, num_mul-zero, num_one-mul, num_minus_one-mul}
 use Rattle.sign_moves.proofs.SignLaws.{own_negative}
 use Rattle.sparse_rows.specs.Solutions.{dot, Solve}
-use Rattle.tensor_defs.specs.Elimination.{Carrier, IsDropped, AreRepresentatives, AreUnknowns, carried, rows_of}
-use Rattle.tensor_defs.specs.Frames.{AllOf, IsDiagonal, IsFramed, IsHexagonal}
-use Rattle.tensor_defs.specs.Jahn.{JahnSymbol, IsInvariant, rank}
-use Rattle.tensor_defs.specs.Lists.{Each}
-use Rattle.tensor_defs.specs.Number.{Number, mul, num_zero, num_one}
-use Rattle.tensor_defs.specs.Operation.{Operation, IsProduct}
-use Rattle.tensor_defs.specs.Orders.{IsOrder}
-use Rattle.tensor_defs.specs.Tensor.{Index, Tensor, Marks, Agree, act, axial_sign, coefficient, sign, sum_indices, time_sign}
-use Rattle.tensor_defs.specs.Words.{Word, even_row, odd_row, is_used, words}
-use Rattle.tensor_laws.proofs.Action.{turned}
-use Rattle.tensor_laws.proofs.ActionLaws.{act-turned}
-use Rattle.tensor_laws.proofs.WordRows.{rows_decide_lem}
+use Rattle.tensor_defs.specs.Prelude.{Carrier, IsDropped, AreRepresentatives, AreUnknowns, carried, rows_of, AllOf, IsDiagonal, IsFramed, IsHexagonal}
+use Rattle.tensor_defs.specs.Prelude.{JahnSymbol, IsInvariant, rank, Each, Number, mul, num_zero, num_one, Operation, IsProduct, IsOrder, Index, Tensor}
+use Rattle.tensor_defs.specs.Prelude.{Marks, Agree, act, axial_sign, coefficient, sign, sum_indices, time_sign, Word, even_row, odd_row, is_used, words}
 use Rattle.tensor_laws.specs.Laws.{three_z, row_sum}
 use Rattle.axis_laws.proofs.Carrying.{carried_sum}
 use Rattle.axis_laws.proofs.Diagonals.{diagonal_acts, coefficient_sign, sign_is_sign}

@@ -1,20 +1,14 @@
 -- Components that are the same up to a sign have the same representative.
 --   AreLinked         each symmetric list has a times its component c at d, and diagonal operations have one factor at both
 --   carriers_linked   the representative of d is that of c, with the sign multiplied by a
-use Rattle.std.proofs.Common.{◌≡◌, Bool, length, refl, ap, sym, ◌∙◌, inl, inr}
+use Rattle.list_laws.proofs.Kit.{◌≡◌, Bool, length, refl, ap, sym, ◌∙◌, inl, inr, none-some}
 use Rattle.std.specs.Prelude.{Option, Some, None}
-use Rattle.std.proofs.lemmas.Option.{none-some}
 use Rattle.tensor_laws.proofs.Indices.{index_cases}
 use Rattle.list_laws.proofs.Lists.{option_cases}
 use Rattle.number_laws.proofs.NumberLaws.{num_mul_assoc, num_mul-zero, num_one-mul}
 use Rattle.sign_moves.proofs.SignLaws.{own_negative}
-use Rattle.tensor_defs.specs.Elimination.{Carrier, IsSign, IsTied, IsDropped, IsRepresentative, AreRepresentatives}
-use Rattle.tensor_defs.specs.Frames.{IsDiagonal}
-use Rattle.tensor_defs.specs.Jahn.{JahnSymbol, rank, HasSymmetry}
-use Rattle.tensor_defs.specs.Number.{Number, mul, neg, num_zero, num_one}
-use Rattle.tensor_defs.specs.Operation.{Operation}
-use Rattle.tensor_defs.specs.Orders.{IsOrder}
-use Rattle.tensor_defs.specs.Tensor.{Index, Tensor, coefficient, sign}
+use Rattle.tensor_defs.specs.Prelude.{Carrier, IsSign, IsTied, IsDropped, IsRepresentative, AreRepresentatives, IsDiagonal, JahnSymbol, rank, HasSymmetry}
+use Rattle.tensor_defs.specs.Prelude.{Number, mul, neg, num_zero, num_one, Operation, IsOrder, Index, Tensor, coefficient, sign}
 use Rattle.axis_laws.proofs.Signs.{sign_twice, sign_mul, same_or_negative}
 
 -- the shape forces the component to zero

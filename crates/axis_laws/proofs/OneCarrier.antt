@@ -1,14 +1,10 @@
 -- The representatives, the unknowns and the rows are told by the symbol, the set and the order.
 use Rattle.std.proofs.Common.{◌≡◌, ℕ, Bool, List, [], ◌∷◌, length, refl, ap, sym, ◌∙◌}
 use Rattle.std.specs.Prelude.{Option, Some, None, Contains}
-use Rattle.list_laws.proofs.Rising.{rising_same}
-use Rattle.list_laws.proofs.Members.{each_held}
+use Rattle.list_laws.proofs.Prelude.{rising_same, each_held}
 use Rattle.number_laws.proofs.NumberLaws.{num_one-mul}
-use Rattle.tensor_defs.specs.Elimination.{Carrier, AreUnknowns, share, by_place, carried, rows_of}
-use Rattle.tensor_defs.specs.Jahn.{rank}
-use Rattle.tensor_defs.specs.Number.{Number, num_one}
-use Rattle.tensor_defs.specs.Tensor.{Index, sum_indices}
-use Rattle.tensor_defs.specs.Words.{Word, even_row, odd_row}
+use Rattle.tensor_defs.specs.Prelude.{Carrier, AreUnknowns, share, by_place, carried, rows_of, rank, Number, num_one, Index, sum_indices, Word, even_row}
+use Rattle.tensor_defs.specs.Prelude.{odd_row}
 use Rattle.tensor_laws.proofs.Agreeing.{sum_indices-agree}
 use Rattle.axis_laws.proofs.Links.{linked_self, moved, carriers_linked}
 use Rattle.axis_laws.specs.Laws.{OneElimination}

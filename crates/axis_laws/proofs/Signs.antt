@@ -1,8 +1,7 @@
 -- The signs 1 and -1.
 use Rattle.std.proofs.Common.{◌≡◌, ap, sym, ◌∙◌, ◌⊎◌, inl, inr}
 use Rattle.number_laws.proofs.NumberLaws.{num_mul-one, num_one-mul, num_neg-neg, num_minus_one-mul}
-use Rattle.tensor_defs.specs.Elimination.{IsSign}
-use Rattle.tensor_defs.specs.Number.{Number, mul, neg, num_one}
+use Rattle.tensor_defs.specs.Prelude.{IsSign, Number, mul, neg, num_one}
 
 pub sign_twice : (a : Number) → IsSign a → (x : Number) → mul a (mul a x) ≡ x
 sign_twice a (inl e) x = (λ i. mul (e i) (mul (e i) x)) ∙ num_one-mul _ ∙ num_one-mul x

@@ -6,18 +6,11 @@
 use Rattle.std.proofs.Common.{◌≡◌, ℕ, Bool, true, false, List, [], ◌∷◌, ◌++◌, length, refl, ap, sym, ◌∙◌, arith, inl, inr, length-append}
 use Rattle.std.specs.Prelude.{Some, None, cond}
 use Rattle.std.proofs.lemmas.Option.{none-some}
-use Rattle.list_laws.proofs.Lists.{option_cases}
-use Rattle.list_laws.proofs.Members.{each_map}
+use Rattle.list_laws.proofs.Prelude.{option_cases, each_map}
 use Rattle.number_laws.proofs.NumberLaws.{num_mul_assoc, num_mul-zero, num_one-mul, num_mul_left_comm, num_mul_comm, num_minus_one-mul}
 use Rattle.sign_moves.proofs.SignLaws.{own_negative}
-use Rattle.tensor_defs.specs.Elimination.{Carrier, IsSign, IsTied, AreRepresentatives}
-use Rattle.tensor_defs.specs.Frames.{IsDiagonal}
-use Rattle.tensor_defs.specs.Jahn.{JahnSymbol, rank, Bracket, IsExchange, Respects, HasSymmetry, body_brackets}
-use Rattle.tensor_defs.specs.Lists.{Each}
-use Rattle.tensor_defs.specs.Number.{Number, mul, neg, num_zero, num_one}
-use Rattle.tensor_defs.specs.Operation.{Operation, value}
-use Rattle.tensor_defs.specs.Orders.{IsOrder}
-use Rattle.tensor_defs.specs.Tensor.{Index, Tensor, coefficient}
+use Rattle.tensor_defs.specs.Prelude.{Carrier, IsSign, IsTied, AreRepresentatives, IsDiagonal, JahnSymbol, rank, Bracket, IsExchange, Respects, HasSymmetry}
+use Rattle.tensor_defs.specs.Prelude.{body_brackets, Each, Number, mul, neg, num_zero, num_one, Operation, value, IsOrder, Index, Tensor, coefficient}
 use Rattle.axis_laws.proofs.Diagonals.{coefficient_sign}
 use Rattle.axis_laws.proofs.Links.{IsForced, AreLinked, tied_back, moved, carriers_linked}
 use Rattle.axis_laws.proofs.Signs.{sign_square, same_or_negative}

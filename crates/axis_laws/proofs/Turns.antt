@@ -1,21 +1,15 @@
 -- A list that diagonal members and the threefold rotation leave the same is left the same by each hexagonal member.
 --   hexagonal_kept  a hexagonal member is a power of the threefold rotation times a diagonal one
-use Rattle.std.proofs.Common.{◌≡◌, ℕ, ◌<◌, Bool, true, false, refl, sym, ◌∙◌, subst, lit<, inl, inr}
+use Rattle.list_laws.proofs.Kit.{◌≡◌, ℕ, ◌<◌, Bool, true, false, refl, sym, ◌∙◌, subst, lit<, inl, inr, eqb-true}
 use Rattle.std.specs.Prelude.{nat_eq}
-use Rattle.std.proofs.lemmas.Bool.{eqb-true}
-use Rattle.list_laws.proofs.Below.{all_below, below_told}
-use Rattle.list_laws.proofs.Tests.{either_told, implied, both, plain_xor}
+use Rattle.list_laws.proofs.Prelude.{all_below, below_told, either_told, implied, both, plain_xor}
 use Rattle.op_matrix.proofs.Frames.{also, either}
 use Rattle.op_matrix.proofs.Hexagonal.{implies, hex_common, hex_kept_at, diagonal_at_told}
 use Rattle.op_matrix.proofs.Listed.{hex_listed}
 use Rattle.op_matrix.proofs.Products.{product_code, frame_code, product_at, product_code_below}
-use Rattle.op_matrix.specs.Table.{operation_at}
-use Rattle.op_matrix.specs.View.{hex_frame, both_frame}
-use Rattle.tensor_defs.specs.Frames.{IsDiagonal, IsHexagonal}
-use Rattle.tensor_defs.specs.Operation.{Operation, IsProduct}
-use Rattle.tensor_defs.specs.Tensor.{Tensor, Marks, Agree, act}
-use Rattle.tensor_laws.proofs.ActionLaws.{acts_in_turn}
-use Rattle.tensor_laws.proofs.Agreeing.{act-agree}
+use Rattle.op_matrix.specs.Prelude.{operation_at, hex_frame, both_frame}
+use Rattle.tensor_defs.specs.Prelude.{IsDiagonal, IsHexagonal, Operation, IsProduct, Tensor, Marks, Agree, act}
+use Rattle.tensor_laws.proofs.Prelude.{acts_in_turn, act-agree}
 use Rattle.tensor_laws.specs.Laws.{three_z}
 
 -- matrix 52 is the threefold rotation, and matrix 50 its square, which undo each other

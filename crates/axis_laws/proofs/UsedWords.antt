@@ -2,18 +2,14 @@
 --   Tells           which kind of words a test chooses, among those whose first letter other than z is +
 --   chosen_of, chosen_told    from all words of the kind to those chosen, and back
 --   used_of, used_told        the same for the words in use, whose count isn't divisible by 3
-use Rattle.std.proofs.Common.{◌≡◌, ℕ, zero, suc, ◌+◌, ◌*◌, ◌%◌, ◌<◌, Bool, true, false, cond, List, [], ◌∷◌, ◌++◌, length, refl, ap, sym, ◌∙◌, arith, inl, inr, subst, map}
+use Rattle.list_laws.proofs.Kit.{◌≡◌, ℕ, zero, suc, ◌+◌, ◌*◌, ◌%◌, ◌<◌, Bool, true, false, cond, List, [], ◌∷◌, ◌++◌, length, refl, ap, sym, ◌∙◌, arith, inl}
+use Rattle.list_laws.proofs.Kit.{inr, subst, map, cases_Bool, nat_tests}
 use Rattle.std.specs.Prelude.{filter, nat_eq}
-use Rattle.std.proofs.lemmas.Bool.{cases_Bool}
-use Rattle.std.proofs.lemmas.Bool.Decides.{nat_tests}
 use Rattle.list_laws.proofs.Members.{each_append, each_split}
 use Rattle.number_laws.proofs.NumberLaws.{num_neg-neg, num_mul-zero}
-use Rattle.tensor_defs.specs.Lists.{Each}
-use Rattle.tensor_defs.specs.Number.{neg, num_zero}
-use Rattle.tensor_defs.specs.Tensor.{Tensor}
-use Rattle.tensor_defs.specs.Words.{Letter, level, plus, minus, Word, words, is_used, begins_plus, plus_count, minus_count, even_row, odd_row}
-use Rattle.tensor_laws.proofs.WordRows.{row_sums}
-use Rattle.tensor_laws.proofs.WordTurns.{exchanged, exchanged_sum}
+use Rattle.tensor_defs.specs.Prelude.{Each, neg, num_zero, Tensor, Letter, level, plus, minus, Word, words, is_used, begins_plus, plus_count, minus_count}
+use Rattle.tensor_defs.specs.Prelude.{even_row, odd_row}
+use Rattle.tensor_laws.proofs.Prelude.{row_sums, exchanged, exchanged_sum}
 use Rattle.tensor_laws.specs.Laws.{row_sum}
 use Rattle.tensor_laws.specs.WordSums.{word_sum}
 

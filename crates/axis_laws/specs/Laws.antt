@@ -7,14 +7,8 @@
 --   OneElimination  the unknowns and the rows are told by the symbol, the group and the order
 -- Source: a rotation about z multiplies the sum of a word by a unit number; International Tables D 1.1 for invariance.
 use Rattle.std.specs.Prelude.{◌≡◌, ℕ, Bool, List, [], length, filter, get_or, Contains, ◌↔◌, Some, None}
-use Rattle.tensor_defs.specs.Elimination.{AreRepresentatives, AreUnknowns, Carrier, rows_of}
-use Rattle.tensor_defs.specs.Frames.{AllOf, IsFramed, IsPlain}
-use Rattle.tensor_defs.specs.Jahn.{JahnSymbol, IsInvariant, rank}
-use Rattle.tensor_defs.specs.Number.{Number, mul, num_zero}
-use Rattle.tensor_defs.specs.Operation.{IsProduct, Operation}
-use Rattle.tensor_defs.specs.Orders.{IsOrder}
-use Rattle.tensor_defs.specs.Tensor.{Index, Tensor}
-use Rattle.tensor_defs.specs.Words.{Word, is_used, words}
+use Rattle.tensor_defs.specs.Prelude.{AreRepresentatives, AreUnknowns, Carrier, rows_of, AllOf, IsFramed, IsPlain, JahnSymbol, IsInvariant, rank, Number, mul}
+use Rattle.tensor_defs.specs.Prelude.{num_zero, IsProduct, Operation, IsOrder, Index, Tensor, Word, is_used, words}
 use Rattle.sparse_rows.specs.Solutions.{Solve}
 
 pub record IsClosed (hs : List Operation) : Type 0 where

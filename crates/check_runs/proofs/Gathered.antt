@@ -4,15 +4,11 @@
 --   one_list        words give one list
 --   settings_next, faulty_stop    one more word of a list, and one that gives nothing
 --   number_new, number_old    the numbers that the first k settings give, and one more
-use Rattle.std.proofs.Common.{◌≡◌, ◌∙◌, ℕ, zero, suc, ◌+◌, ◌^◌, ◌<◌, List, [], ◌∷◌, ◌++◌, length, map, take, get_or, cond, nat_eq}
-use Rattle.std.proofs.Common.{refl, sym, ap, subst, arith}
-use Rattle.std.proofs.lemmas.List.{get_or-map, length-map, map-append, map_more, take-map}
-use Rattle.std.proofs.lemmas.Bool.{eq-eqb, ne_eqb}
+use Rattle.list_laws.proofs.Kit.{◌≡◌, ◌∙◌, ℕ, zero, suc, ◌+◌, ◌^◌, ◌<◌, List, [], ◌∷◌, ◌++◌, length, map, take, get_or, cond, nat_eq, refl, sym, ap, subst}
+use Rattle.list_laws.proofs.Kit.{arith, get_or-map, length-map, map-append, map_more, take-map, ne_eqb}
+use Rattle.std.proofs.lemmas.Bool.{eq-eqb}
 use Rattle.std.specs.Prelude.{Bool}
-use Rattle.tensor_defs.specs.Lists.{Each}
-use Rattle.tensor_defs.specs.Number.{Number, num_zero}
-use Rattle.tensor_defs.specs.Jahn.{JahnSymbol, rank}
-use Rattle.tensor_defs.specs.Symbols.{GroupSymbol}
+use Rattle.tensor_defs.specs.Prelude.{Each, Number, num_zero, JahnSymbol, rank, GroupSymbol}
 use Rattle.text_defs.specs.Languages.{IsFaulty}
 use Rattle.number_words.specs.Laws.{OneNumber}
 use Rattle.tool_runs.specs.Tools.{Words}

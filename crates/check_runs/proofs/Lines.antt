@@ -4,12 +4,7 @@
 --   check_text      the two lines
 --   not_grown       neither the check nor the search for the stabiliser grows
 use Rattle.std.proofs.Common.{◌≡◌, ◌∙◌, ℕ, ◌^◌, List, codes, refl, sym, ap, subst, inl, inr}
-use Rattle.tensor_defs.specs.Jahn.{JahnSymbol, rank}
-use Rattle.tensor_defs.specs.Lists.{IsListing}
-use Rattle.tensor_defs.specs.Operation.{Operation}
-use Rattle.tensor_defs.specs.OperationOrder.{comes_before}
-use Rattle.tensor_defs.specs.Symbols.{GroupSymbol, parent_text}
-use Rattle.tensor_defs.specs.Tensor.{Marks, Tensor}
+use Rattle.tensor_defs.specs.Prelude.{JahnSymbol, rank, IsListing, Operation, comes_before, GroupSymbol, parent_text, Marks, Tensor}
 use Rattle.text_defs.specs.GroupTexts.{group_text, with_primes}
 use Rattle.given_tensors.specs.Stabilisers.{Stabilises, StabiliserGrows}
 use Rattle.given_tensors.specs.Verdicts.{CheckGrows, TellsVerdict}

@@ -6,20 +6,15 @@
 --   stuck_start, stuck_digit, stuck_equals, faulty_number    where a word goes wrong
 --   HasRead         the digits that were read, and the number of their index
 --   one_setting     a word gives one number to one component
-use Rattle.std.proofs.Common.{◌≡◌, ◌∙◌, ℕ, zero, suc, ◌+◌, ◌-◌, ◌*◌, ◌^◌, ◌<◌, ◌≤◌, List, [], ◌∷◌, ◌++◌, length, map, take, drop, get_or}
-use Rattle.std.proofs.Common.{refl, sym, ap, subst, arith, inl, inr}
-use Rattle.std.proofs.lemmas.Bool.{cases_lt}
-use Rattle.std.proofs.lemmas.List.{append_assoc, drop_more, length-append}
-use Rattle.std.proofs.Math.Nat.{pow-succ'}
-use Rattle.tensor_defs.specs.Number.{Number, mul, root_3}
+use Rattle.list_laws.proofs.Kit.{◌≡◌, ◌∙◌, ℕ, zero, suc, ◌+◌, ◌-◌, ◌*◌, ◌^◌, ◌<◌, ◌≤◌, List, [], ◌∷◌, ◌++◌, length, map, take, drop, get_or, refl, sym, ap}
+use Rattle.list_laws.proofs.Kit.{subst, arith, inl, inr, cases_lt, drop_more, pow-succ'}
+use Rattle.std.proofs.lemmas.List.{append_assoc, length-append}
+use Rattle.tensor_defs.specs.Prelude.{Number, mul, root_3, Axis, x1, x2, x3, Index, axis_place, digit, component_number, index_of}
 use Rattle.tensor_defs.specs.declared.Sign.TheVariants.{Plus}
-use Rattle.tensor_defs.specs.Operation.{Axis, x1, x2, x3}
-use Rattle.tensor_defs.specs.Tensor.{Index, axis_place, digit, component_number, index_of}
 use Rattle.tensor_laws.proofs.ComponentNumbers.{length-index_of}
 use Rattle.tensor_rank.proofs.ExchangeLaws.{power_small}
 use Rattle.tensor_rank.specs.IndexLaws.{component_below_at, index_number_at, number_index_at, place_below}
-use Rattle.text_defs.specs.AnswerTexts.{component_name, digits_text}
-use Rattle.text_defs.specs.Languages.{IsFaulty}
+use Rattle.text_defs.specs.Prelude.{component_name, digits_text, IsFaulty}
 use Rattle.list_laws.proofs.Tests.{next_number}
 use Rattle.fault_places.proofs.Places.{Through, Through-faulty, Through-short, Through-skip, Through-start, Through-stuck, same_faulty}
 use Rattle.number_words.specs.Laws.{OneNumber}

@@ -1,14 +1,6 @@
 -- Words that have an answer are not refused.
-use Rattle.std.proofs.Common.{◌≡◌, ◌∙◌, ℕ, ◌<◌, ◌≤◌, List, ap, sym, subst, arith, length, inl, inr}
-use Rattle.tensor_defs.specs.Group.{InGroup, IsAccepted}
-use Rattle.std.proofs.Common.{Result, Ok, Err, IfOk}
-use Rattle.tensor_defs.specs.Jahn.{JahnSymbol, rank}
-use Rattle.tensor_defs.specs.Operation.{Operation}
-use Rattle.tensor_defs.specs.Symbols.{GroupSymbol}
-use Rattle.tensor_defs.specs.Tensor.{Tensor}
-use Rattle.tensor_defs.specs.Number.{Root3}
-use Rattle.tensor_defs.specs.Lists.{IsListing}
-use Rattle.tensor_defs.specs.OperationOrder.{comes_before}
+use Rattle.list_laws.proofs.Kit.{◌≡◌, ◌∙◌, ℕ, ◌<◌, ◌≤◌, List, ap, sym, subst, arith, length, inl, inr, Result, Ok, Err, IfOk}
+use Rattle.tensor_defs.specs.Prelude.{InGroup, IsAccepted, JahnSymbol, rank, Operation, GroupSymbol, Tensor, Root3, IsListing, comes_before}
 use Rattle.tensor_action.specs.Acting.{tensor_of}
 use Rattle.answer_laws.proofs.Listings.{operations_listed}
 use Rattle.number_words.specs.Laws.{OneNumber}

@@ -13,8 +13,7 @@ use Rattle.std.proofs.lemmas.List.{get_or-map, get_or-replicate, get_or-set_same
 use Rattle.std.proofs.Math.ListN.{get_or-eq_default}
 use Rattle.std.proofs.Math.Seq.{take-length}
 use Rattle.number_laws.proofs.NumberLaws.{num_add-zero, num_zero-mul}
-use Rattle.tensor_defs.specs.Number.{Number, Root3, num_zero, root_3, add, mul, value_of}
-use Rattle.tensor_defs.specs.Tensor.{component_number}
+use Rattle.tensor_defs.specs.Prelude.{Number, Root3, num_zero, root_3, add, mul, value_of, component_number}
 use Rattle.exact_frac.specs.Held.{zero_over_one}
 use Rattle.root3_num.specs.Roots.{value_of_root}
 use Rattle.tensor_action.specs.Acting.{tensor_of, zero_root}

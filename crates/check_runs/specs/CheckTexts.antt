@@ -6,17 +6,9 @@
 -- Source: this project's own.
 use Rattle.std.specs.Prelude.{◌≡◌, ◌⊎◌, ℕ, ◌^◌, List, [], ◌∷◌, ◌++◌, codes, length, Option}
 use Rattle.std.specs.Fmt.{decimal}
-use Rattle.tensor_defs.specs.Frames.{AllOf, IsPlain}
-use Rattle.tensor_defs.specs.Jahn.{JahnSymbol, IsInvariant, rank}
-use Rattle.tensor_defs.specs.Lists.{IsListing}
-use Rattle.tensor_defs.specs.Names.{IsNameOf}
-use Rattle.tensor_defs.specs.Operation.{Operation}
-use Rattle.tensor_defs.specs.OperationOrder.{comes_before}
-use Rattle.tensor_defs.specs.Symbols.{GroupSymbol}
-use Rattle.tensor_defs.specs.Tensor.{Tensor, index_of}
-use Rattle.text_defs.specs.AnswerTexts.{component_name, line_of, name_text}
-use Rattle.text_defs.specs.GroupTexts.{group_text}
-use Rattle.text_defs.specs.JahnTexts.{jahn_text}
+use Rattle.tensor_defs.specs.Prelude.{AllOf, IsPlain, JahnSymbol, IsInvariant, rank, IsListing, IsNameOf, Operation, comes_before, GroupSymbol, Tensor}
+use Rattle.tensor_defs.specs.Prelude.{index_of}
+use Rattle.text_defs.specs.Prelude.{component_name, line_of, name_text, group_text, jahn_text}
 use Rattle.magnetic_groups.specs.Sets.{In}
 use Rattle.given_tensors.specs.Stabilisers.{Stabilises}
 use Rattle.given_tensors.specs.Verdicts.{IsFirstBroken, IsRefuting}

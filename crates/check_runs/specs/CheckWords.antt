@@ -13,16 +13,8 @@
 --   IsCheckAnswer   the one text that is defined for these words
 -- Source: this project's own.
 use Rattle.std.specs.Prelude.{◌≡◌, ◌⊎◌, ℕ, ◌+◌, ◌<◌, ◌≤◌, List, [], ◌∷◌, ◌++◌, codes, drop, get_or, length}
-use Rattle.tensor_defs.specs.Group.{InGroup, IsAccepted}
-use Rattle.tensor_defs.specs.Jahn.{JahnSymbol, rank}
-use Rattle.tensor_defs.specs.Lists.{IsListing}
-use Rattle.tensor_defs.specs.Operation.{Operation}
-use Rattle.tensor_defs.specs.OperationOrder.{comes_before}
-use Rattle.tensor_defs.specs.Symbols.{GroupSymbol}
-use Rattle.tensor_defs.specs.Tensor.{Tensor}
-use Rattle.text_defs.specs.GroupTexts.{IsGroupText, SpellsGroup}
-use Rattle.text_defs.specs.JahnTexts.{IsJahnText, SpellsJahn}
-use Rattle.text_defs.specs.Languages.{IsFaulty}
+use Rattle.tensor_defs.specs.Prelude.{InGroup, IsAccepted, JahnSymbol, rank, IsListing, Operation, comes_before, GroupSymbol, Tensor}
+use Rattle.text_defs.specs.Prelude.{IsGroupText, SpellsGroup, IsJahnText, SpellsJahn, IsFaulty}
 use Rattle.given_tensors.specs.Stabilisers.{StabiliserGrows}
 use Rattle.given_tensors.specs.Verdicts.{CheckGrows}
 use Rattle.given_tensors.specs.declared.wholes.Whole.{Whole}

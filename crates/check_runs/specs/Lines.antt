@@ -3,10 +3,7 @@
 --   IsStabiliserLine    the line of a stabiliser behind other text
 use Rattle.std.specs.Prelude.{◌≡◌, ℕ, List, [], ◌∷◌, ◌++◌, codes, length, Option}
 use Rattle.std.specs.Fmt.{decimal}
-use Rattle.tensor_defs.specs.Names.{IsNameOf}
-use Rattle.tensor_defs.specs.Operation.{Operation}
-use Rattle.tensor_defs.specs.Symbols.{GroupSymbol}
-use Rattle.tensor_defs.specs.Tensor.{index_of}
+use Rattle.tensor_defs.specs.Prelude.{IsNameOf, Operation, GroupSymbol, index_of}
 use Rattle.text_defs.specs.AnswerTexts.{component_name}
 use Rattle.magnetic_groups.specs.Sets.{In}
 use Rattle.given_tensors.specs.declared.verdict.Verdict.{Verdict}

@@ -3,10 +3,8 @@
 --   IsNamed         the word begins with the name of a component, and =
 --   ReadsComponent  the component, or where the word goes wrong
 use Rattle.std.specs.Prelude.{◌≡◌, ℕ, ◌+◌, ◌<◌, ◌^◌, List, ◌∷◌, ◌++◌, drop, Option, Some, None, Result, Ok, Err}
-use Rattle.tensor_defs.specs.Operation.{Axis}
-use Rattle.tensor_defs.specs.Tensor.{axis_place, digit, index_of}
-use Rattle.text_defs.specs.AnswerTexts.{component_name}
-use Rattle.text_defs.specs.Languages.{IsFaulty}
+use Rattle.tensor_defs.specs.Prelude.{Axis, axis_place, digit, index_of}
+use Rattle.text_defs.specs.Prelude.{component_name, IsFaulty}
 use Rattle.text_defs.specs.declared.Fault.{Fault}
 use Rattle.number_words.specs.Runs.{IsAt}
 use Rattle.check_runs.specs.Settings.{IsSetting}

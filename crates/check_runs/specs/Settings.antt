@@ -10,11 +10,8 @@
 --   given_tensor    the tensor of these numbers
 -- Components are told by their numbers in index order, and words by their places, both from 0. Source: this project's own.
 use Rattle.std.specs.Prelude.{◌≡◌, ℕ, ◌<◌, ◌^◌, List, [], ◌∷◌, ◌++◌, cond, length, take, get_or, nat_eq}
-use Rattle.tensor_defs.specs.Lists.{Each}
-use Rattle.tensor_defs.specs.Number.{Number, num_zero}
-use Rattle.tensor_defs.specs.Tensor.{Tensor, component_number, index_of}
-use Rattle.text_defs.specs.AnswerTexts.{component_name}
-use Rattle.text_defs.specs.Languages.{IsFaulty}
+use Rattle.tensor_defs.specs.Prelude.{Each, Number, num_zero, Tensor, component_number, index_of}
+use Rattle.text_defs.specs.Prelude.{component_name, IsFaulty}
 use Rattle.number_words.specs.NumberWords.{SpellsNumber}
 use Rattle.tool_runs.specs.Tools.{Words}
 

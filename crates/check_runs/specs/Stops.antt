@@ -10,10 +10,7 @@
 --   IsGrownGiven    the refusal of a tensor whose check or stabiliser grows
 -- Source: this project's own.
 use Rattle.std.specs.Prelude.{◌≡◌, ◌+◌, List, ℕ, map, Result, Ok, Err}
-use Rattle.tensor_defs.specs.Jahn.{JahnSymbol}
-use Rattle.tensor_defs.specs.Operation.{Operation}
-use Rattle.tensor_defs.specs.Symbols.{GroupSymbol}
-use Rattle.tensor_defs.specs.Tensor.{Tensor}
+use Rattle.tensor_defs.specs.Prelude.{JahnSymbol, Operation, GroupSymbol, Tensor}
 use Rattle.text_defs.specs.Languages.{IsFaulty}
 use Rattle.text_defs.specs.declared.Fault.{Fault}
 use Rattle.root3_num.specs.Roots.{value_of_root}

@@ -1,39 +1,24 @@
 -- A table of first components tells the classes over the invariant tensors.
 --   classes_told    the same for the numbers of a typed rank
-use Rattle.std.proofs.Common.{[], ◌≡◌, ◌≢◌, ℕ, zero, suc, ◌-◌, ◌^◌, ◌<◌, Bool, true, false, cond, List, ◌∷◌, length, get_or, refl, ap, sym, ◌∙◌, arith, subst, inl, inr}
+use Rattle.list_laws.proofs.Kit.{[], ◌≡◌, ◌≢◌, ℕ, zero, suc, ◌-◌, ◌^◌, ◌<◌, Bool, true, false, cond, List, ◌∷◌, length, get_or, refl, ap, sym, ◌∙◌, arith}
+use Rattle.list_laws.proofs.Kit.{subst, inl, inr, eqb-true, cases_lt, cases_Bool, both_ways, eqb_tells, get_or_default}
 use Rattle.std.specs.Prelude.{Contains, eqb, Some, None}
-use Rattle.std.proofs.lemmas.Bool.{eqb-true, eq-eqb, cases_lt, cases_Bool, both_ways}
-use Rattle.std.proofs.lemmas.Bool.Decides.{eqb_tells}
-use Rattle.std.proofs.lemmas.List.{get_or_default}
-use Rattle.tensor_laws.proofs.Indices.{index_cases}
-use Rattle.tensor_defs.specs.Frames.{AllOf, IsPlain}
-use Rattle.tensor_defs.specs.Jahn.{JahnSymbol, Bracket, rank, body_brackets, IsInvariant, Respects}
-use Rattle.tensor_defs.specs.Lists.{Each}
-use Rattle.tensor_defs.specs.Number.{Number, neg, num_zero, num_one}
-use Rattle.tensor_defs.specs.Operation.{Operation, identity}
-use Rattle.tensor_defs.specs.Tensor.{Index, Tensor, coefficient, component_number, index_of}
+use Rattle.std.proofs.lemmas.Bool.{eq-eqb}
+use Rattle.tensor_laws.proofs.Prelude.{index_cases, length-index_of, number-index_of}
+use Rattle.tensor_defs.specs.Prelude.{AllOf, IsPlain, JahnSymbol, Bracket, rank, body_brackets, IsInvariant, Respects, Each, Number, neg, num_zero, num_one}
+use Rattle.tensor_defs.specs.Prelude.{Operation, identity, Index, Tensor, coefficient, component_number, index_of}
 use Rattle.tensor_defs.specs.declared.Sign.{Sign}
 use Rattle.tensor_defs.specs.declared.Sign.TheVariants.{Plus, Minus}
 use Rattle.number_laws.proofs.NumberLaws.{num_neg-neg}
-use Rattle.tensor_laws.proofs.ComponentNumbers.{length-index_of, number-index_of}
 use Rattle.magnetic_groups.specs.Sets.{In}
 use Rattle.sign_moves.specs.declared.classes.Entry.{Entry}
-use Rattle.sign_moves.specs.Classes.{first_at, sign_at, vanishes_at}
-use Rattle.sign_moves.specs.Firsts.{IsFirstTable}
-use Rattle.sign_moves.specs.Moves.{IsReversible, IsKept, Reaches, stay, move}
-use Rattle.sign_moves.specs.Signs.{signed}
+use Rattle.sign_moves.specs.Prelude.{first_at, sign_at, vanishes_at, IsFirstTable, IsReversible, IsKept, Reaches, stay, move, signed}
 use Rattle.sign_moves.proofs.FirstLaws.{spread, spread_kept, spread_open, spread_vanishing, first_can, first_same}
 use Rattle.sign_moves.proofs.JoinedLaws.{at_first, at_second, kept_again}
 use Rattle.sign_moves.proofs.SignLaws.{signed_zero, sign_not_zero}
 use Rattle.tensor_rank.specs.declared.exchanges.Exchange.{Exchange}
-use Rattle.tensor_rank.specs.Carried.{Carried, rests, steps, Exchanges, IsZeroAt, IsFirstCarried, TellsClass}
-use Rattle.tensor_rank.specs.Exchanges.{exchange_moves, exchanged}
-use Rattle.tensor_rank.specs.IndexLaws.{index_number_at, component_below_at}
-use Rattle.tensor_rank.specs.Orders.{Ordering, before_of, before_at}
-use Rattle.tensor_rank.specs.ShapeValue.{ShapeValue}
-use Rattle.tensor_rank.specs.Shapes.{IsShapeOf}
-use Rattle.tensor_rank.specs.Symmetry.{exchanges_of}
-use Rattle.tensor_rank.specs.Within.{AllWithin, IsWithin}
+use Rattle.tensor_rank.specs.Prelude.{Carried, rests, steps, Exchanges, IsZeroAt, IsFirstCarried, TellsClass, exchange_moves, exchanged, index_number_at}
+use Rattle.tensor_rank.specs.Prelude.{component_below_at, Ordering, before_of, before_at, ShapeValue, IsShapeOf, exchanges_of, AllWithin, IsWithin}
 use Rattle.tensor_rank.proofs.ExchangeIndex.{numbered, length_exchanged, can_exchange, exchange_lands, all_from, each_exchange}
 use Rattle.tensor_rank.proofs.ShapeLaws.{carried_join}
 use Rattle.constraint_rows.specs.declared.ops.PlainOp.{PlainOp}

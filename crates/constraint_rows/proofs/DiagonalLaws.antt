@@ -9,26 +9,19 @@ use Rattle.std.proofs.lemmas.Bool.{cases_lt}
 use Rattle.std.proofs.lemmas.List.{get_or_append_left, get_or_default, get_or_push}
 use Rattle.number_laws.proofs.Sameness.{one_not_zero}
 use Rattle.number_laws.proofs.NumberLaws.{num_one-mul, num_mul_assoc, num_mul_comm, num_mul_left_comm}
-use Rattle.tensor_defs.specs.Frames.{IsDiagonal, IsPlain, IsUnit, OneUnit}
-use Rattle.tensor_defs.specs.Jahn.{Bracket, IsExchange, JahnSymbol}
-use Rattle.tensor_defs.specs.Number.{Number, mul, neg, num_zero, num_one}
-use Rattle.tensor_defs.specs.Operation.{Axis, x1, x2, x3, Operation, entry, nought, value, identity}
-use Rattle.tensor_defs.specs.Tensor.{Index, Marks, axis_place, axis_at, coefficient, index_of, sign}
+use Rattle.tensor_defs.specs.Prelude.{IsDiagonal, IsPlain, IsUnit, OneUnit, Bracket, IsExchange, JahnSymbol, Number, mul, neg, num_zero, num_one, Axis, x1}
+use Rattle.tensor_defs.specs.Prelude.{x2, x3, Operation, entry, nought, value, identity, Index, Marks, axis_place, axis_at, coefficient, index_of, sign}
 use Rattle.std.specs.Prelude.{Contains, ◌↔◌}
 use Rattle.tensor_defs.specs.declared.Sign.{Sign}
 use Rattle.tensor_defs.specs.declared.Sign.TheVariants.{Plus, Minus}
 use Rattle.magnetic_groups.specs.Sets.{In}
 use Rattle.sign_moves.specs.declared.classes.Entry.{Entry}
-use Rattle.sign_moves.specs.Classes.{entry_at, first_at, vanishes_at}
-use Rattle.sign_moves.specs.Firsts.{AreSettled}
-use Rattle.sign_moves.specs.Signs.{signed}
+use Rattle.sign_moves.specs.Prelude.{entry_at, first_at, vanishes_at, AreSettled, signed}
 use Rattle.sign_moves.proofs.SignLaws.{own_negative, sign_not_zero, signed-signed}
 use Rattle.tensor_rank.specs.Carried.{Carried, rests, steps}
 use Rattle.constraint_rows.specs.declared.ops.PlainOp.{PlainOp}
-use Rattle.constraint_rows.specs.Classes.{GroupStep, exchange, turn}
-use Rattle.constraint_rows.specs.Marking.{AreDiagonals, IsMarked, IsTurned, IsTurnedEntry, Kills, Turns}
-use Rattle.constraint_rows.specs.PlainOps.{AllHaveColumns, StandsFor, image, op_at, op_sign}
-use Rattle.constraint_rows.specs.WordRows.{IsKilled}
+use Rattle.constraint_rows.specs.Prelude.{GroupStep, exchange, turn, AreDiagonals, IsMarked, IsTurned, IsTurnedEntry, Kills, Turns, AllHaveColumns, StandsFor}
+use Rattle.constraint_rows.specs.Prelude.{image, op_at, op_sign, IsKilled}
 use Rattle.constraint_rows.proofs.OpIndex.{moved, coefficient_own, list_signs, sign_number, signed_mul}
 use Rattle.constraint_rows.proofs.StandLaws.{zero_number}
 

@@ -5,23 +5,18 @@
 --   IsGathering, class_part, term_part, terms_sum, gathering, row_at-gathered, gathered-append
 --       parts gathered from terms
 --   each_term, gathered_small, gathered_more, nothing_and    parts gathered from some of the terms
-use Rattle.std.proofs.Common.{[], ◌≡◌, ◌≢◌, ℕ, zero, suc, ◌+◌, ◌%◌, ◌^◌, ◌<◌, ◌≤◌, Bool, true, false, cond, List, ◌∷◌, ◌++◌, length, get_or, take, drop, refl, ap, sym, ◌∙◌, arith, subst, inl, inr, eq-eqb}
+use Rattle.list_laws.proofs.Kit.{[], ◌≡◌, ◌≢◌, ℕ, zero, suc, ◌+◌, ◌%◌, ◌^◌, ◌<◌, ◌≤◌, Bool, true, false, cond, List, ◌∷◌, ◌++◌, length, get_or, take, drop}
+use Rattle.list_laws.proofs.Kit.{refl, ap, sym, ◌∙◌, arith, subst, inl, inr, eqb-true, ne_eqb, both_ways, set_split, take_more, length-take-le, ints}
+use Rattle.std.proofs.Common.{eq-eqb}
 use Rattle.std.specs.Prelude.{IsTrue, insert, nat_eq, unsigned_abs, Option, Some, None}
-use Rattle.std.proofs.lemmas.Bool.{eqb-true, ne_eqb, both_ways}
-use Rattle.std.proofs.lemmas.List.{set_split, take_more, length-take-le}
 use Rattle.std.proofs.Math.ListN.{set}
-use Rattle.std.proofs.lemmas.Int.{ints}
 use lib.IntN.{ℤ, pos, negsuc, ◌+ℤ◌, ◌*ℤ◌}
 use Rattle.number_laws.proofs.NumberLaws.{num_zero-add, num_add_left_comm, num_add_assoc}
-use Rattle.tensor_defs.specs.IntRing.{mul-one_ℤ}
-use Rattle.tensor_defs.specs.Lists.{Each, IsRising}
-use Rattle.tensor_defs.specs.Number.{Number, add, num_zero, whole, same_numbers}
+use Rattle.tensor_defs.specs.Prelude.{mul-one_ℤ, Each, IsRising, Number, add, num_zero, whole, same_numbers, component_number, index_of}
 use Rattle.tensor_defs.specs.declared.Sign.{Sign}
 use Rattle.tensor_defs.specs.declared.Sign.TheVariants.{Plus, Minus}
-use Rattle.tensor_defs.specs.Tensor.{component_number, index_of}
 use Rattle.tensor_laws.proofs.ComponentNumbers.{length-index_of, number-index_of}
-use Rattle.tensor_rank.specs.Orders.{Ordering, before_at}
-use Rattle.tensor_rank.specs.StrictOrders.{orders_are_orders, orders_strict}
+use Rattle.tensor_rank.specs.Prelude.{Ordering, before_at, orders_are_orders, orders_strict}
 use Rattle.sign_moves.specs.declared.classes.Entry.{Entry}
 use Rattle.sign_moves.specs.Signs.{times}
 use Rattle.constraint_rows.specs.Classes.{class_at}

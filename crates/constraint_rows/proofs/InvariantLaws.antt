@@ -1,21 +1,13 @@
 -- Invariant tensors are those that the moves keep, and generators suffice.
-use Rattle.std.proofs.Common.{◌≡◌, ℕ, ◌^◌, List, [], ◌∷◌, get_or, ap, ◌∙◌, subst}
+use Rattle.list_laws.proofs.Kit.{◌≡◌, ℕ, ◌^◌, List, [], ◌∷◌, get_or, ap, ◌∙◌, subst, get_or_default}
 use Rattle.std.specs.Prelude.{Contains}
-use Rattle.std.proofs.lemmas.List.{get_or_default}
-use Rattle.tensor_defs.specs.Operation.{Operation, identity}
-use Rattle.tensor_defs.specs.Tensor.{Tensor, Marks, Agree, act}
-use Rattle.tensor_defs.specs.Lists.{Each}
-use Rattle.tensor_defs.specs.Group.{IsProductOf, Generated}
-use Rattle.tensor_defs.specs.Jahn.{JahnSymbol, rank, body_brackets, IsInvariant}
-use Rattle.tensor_laws.proofs.ActionLaws.{acts_in_turn, identity_acts_lem}
-use Rattle.tensor_laws.proofs.Agreeing.{act-agree}
-use Rattle.sign_moves.specs.Moves.{Moves, IsKept}
-use Rattle.tensor_rank.specs.Exchanges.{exchange_moves}
-use Rattle.tensor_rank.specs.Within.{AllWithin}
+use Rattle.tensor_defs.specs.Prelude.{Operation, identity, Tensor, Marks, Agree, act, Each, IsProductOf, Generated, JahnSymbol, rank, body_brackets}
+use Rattle.tensor_defs.specs.Prelude.{IsInvariant}
+use Rattle.tensor_laws.proofs.Prelude.{acts_in_turn, identity_acts_lem, act-agree}
+use Rattle.sign_moves.specs.Prelude.{Moves, IsKept, joined}
+use Rattle.tensor_rank.specs.Prelude.{exchange_moves, AllWithin, exchanges_of}
 use Rattle.constraint_rows.specs.declared.ops.PlainOp.{PlainOp}
 use Rattle.constraint_rows.specs.PlainOps.{StandForAll, op_moves}
-use Rattle.sign_moves.specs.Joined.{joined}
-use Rattle.tensor_rank.specs.Symmetry.{exchanges_of}
 use Rattle.sign_moves.proofs.JoinedLaws.{kept_by_first, kept_by_second, kept_by_both}
 use Rattle.tensor_rank.proofs.ExchangeIndex.{numbered, symmetric_kept, kept_symmetric}
 use Rattle.constraint_rows.proofs.OpIndex.{unchanged_kept, kept_unchanged}

@@ -1,11 +1,8 @@
 -- What the lists that are made element by element are, and a table of first components made from generators.
-use Rattle.std.proofs.Common.{◌≡◌, ℕ, ◌+◌, ◌-◌, ◌<◌, ◌≤◌, ◌^◌, List, [], ◌∷◌, ◌++◌, length, get_or, arith, refl, ap, sym, ◌∙◌, subst, inl, inr, ◌↔◌}
+use Rattle.list_laws.proofs.Kit.{◌≡◌, ℕ, ◌+◌, ◌-◌, ◌<◌, ◌≤◌, ◌^◌, List, [], ◌∷◌, ◌++◌, length, get_or, arith, refl, ap, sym, ◌∙◌, subst, inl, inr, ◌↔◌}
+use Rattle.list_laws.proofs.Kit.{cases_lt, get_or_append_left, get_or-append_right}
 use Rattle.std.specs.Prelude.{Contains}
-use Rattle.std.proofs.lemmas.Bool.{cases_lt}
-use Rattle.std.proofs.lemmas.List.{get_or_append_left, get_or-append_right}
-use Rattle.tensor_defs.specs.Frames.{AllOf}
-use Rattle.tensor_defs.specs.Operation.{Operation, identity}
-use Rattle.tensor_defs.specs.Tensor.{Marks}
+use Rattle.tensor_defs.specs.Prelude.{AllOf, Operation, identity, Marks}
 use Rattle.tensor_defs.specs.declared.Sign.TheVariants.{Plus}
 use Rattle.magnetic_groups.specs.Sets.{In, Spanned}
 use Rattle.sign_moves.specs.declared.classes.Entry.{Entry}
@@ -13,13 +10,10 @@ use Rattle.sign_moves.specs.Firsts.{IsFirstTable, AreSettled}
 use Rattle.sign_moves.proofs.FirstLaws.{firsts_tell}
 use Rattle.sign_moves.proofs.JoinedLaws.{joined_reversible}
 use Rattle.tensor_rank.specs.declared.exchanges.Exchange.{Exchange}
-use Rattle.tensor_rank.specs.Orders.{Ordering, before_at}
-use Rattle.tensor_rank.specs.ShapeValue.{ShapeValue}
-use Rattle.tensor_rank.specs.Within.{AllWithin}
+use Rattle.tensor_rank.specs.Prelude.{Ordering, before_at, ShapeValue, AllWithin}
 use Rattle.tensor_rank.proofs.ExchangeLaws.{exchanges_reversible}
 use Rattle.constraint_rows.specs.declared.ops.PlainOp.{PlainOp}
-use Rattle.constraint_rows.specs.Classes.{IsPlainTable, moves_of}
-use Rattle.constraint_rows.specs.PlainOps.{ArePermutations, StandsFor, StandForAll, op_at}
+use Rattle.constraint_rows.specs.Prelude.{IsPlainTable, moves_of, ArePermutations, StandsFor, StandForAll, op_at}
 use Rattle.constraint_rows.proofs.OpLaws.{ops_reversible}
 
 -- one more matrix stands for one more operation

@@ -3,27 +3,19 @@
 --   moved_number    by component numbers
 --   act_number    the action at a component has one term
 use Rattle.std.proofs.Common.{◌≡◌, ◌≢◌, ℕ, zero, suc, ◌^◌, ◌<◌, List, [], ◌∷◌, length, get_or, refl, ap, sym, ◌∙◌, arith, subst, inl, inr}
-use Rattle.tensor_laws.proofs.Indices.{axis_cases}
+use Rattle.tensor_laws.proofs.Prelude.{axis_cases, turned, turned-cons, turned-nil, act-turned, length-index_of, axis_at-place, place-axis_at}
 use lib.IntN.{negsuc}
-use Rattle.tensor_defs.specs.Number.{Number, add, mul, neg, num_zero, num_one, whole}
+use Rattle.tensor_defs.specs.Prelude.{Number, add, mul, neg, num_zero, num_one, whole, Axis, x1, x2, x3, sum_axes, Operation, value, identity, Index, Tensor}
+use Rattle.tensor_defs.specs.Prelude.{Marks, act, coefficient, Agree, axis_place, component_number, axis_at, index_of}
 use Rattle.number_laws.proofs.NumberLaws.{num_zero-mul, num_mul-zero, num_add-zero, num_zero-add, num_one-mul, num_mul_assoc}
-use Rattle.tensor_defs.specs.Operation.{Axis, x1, x2, x3, sum_axes, Operation, value, identity}
-use Rattle.tensor_defs.specs.Tensor.{Index, Tensor, Marks, act, coefficient}
-use Rattle.tensor_defs.specs.Tensor.{Agree}
-use Rattle.tensor_defs.specs.Tensor.{axis_place, component_number, axis_at, index_of}
-use Rattle.tensor_laws.proofs.Action.{turned, turned-cons, turned-nil}
-use Rattle.tensor_laws.proofs.ActionLaws.{act-turned}
-use Rattle.tensor_laws.proofs.ComponentNumbers.{length-index_of, axis_at-place, place-axis_at}
 use Rattle.tensor_defs.specs.declared.Sign.{Sign}
 use Rattle.tensor_defs.specs.declared.Sign.TheVariants.{Plus, Minus}
-use Rattle.sign_moves.specs.Signs.{times, times-times, times_plus, signed}
-use Rattle.sign_moves.specs.Moves.{IsKept}
+use Rattle.sign_moves.specs.Prelude.{times, times-times, times_plus, signed, IsKept}
 use Rattle.sign_moves.proofs.SignLaws.{signed-signed}
-use Rattle.tensor_rank.specs.Digits.{digit_of}
+use Rattle.tensor_rank.specs.Prelude.{digit_of, nth, place_below, index_number_at, component_below_at, digit_index, index_of_digits}
 use Rattle.constraint_rows.specs.declared.ops.PlainOp.{PlainOp}
 use Rattle.constraint_rows.proofs.OpLaws.{signs_of-same}
 use Rattle.constraint_rows.specs.PlainOps.{image, entry_sign, signs_of, op_carried, op_sign, StandsFor, StandForAll, op_moves}
-use Rattle.tensor_rank.specs.IndexLaws.{nth, place_below, index_number_at, component_below_at, digit_index, index_of_digits}
 use Rattle.tensor_rank.proofs.ExchangeIndex.{numbered}
 
 -- where the matrix carries an index, and with which sign

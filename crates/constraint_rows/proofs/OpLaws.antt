@@ -3,11 +3,9 @@
 --       six turns of a permutation of three columns lead back
 use Rattle.std.proofs.Common.{◌≡◌, ℕ, ◌+◌, ◌<◌, ◌≤◌, ◌^◌, List, length, zero, suc, arith, ap, sym, ◌∙◌, refl, subst, lit<, ◌⊎◌, inl, inr, ◌≢◌}
 use Rattle.tensor_rank.proofs.ExchangeLaws.{digit_below, power_small}
-use Rattle.tensor_rank.specs.Digits.{digit_of, number_of}
-use Rattle.tensor_rank.specs.DigitLaws.{number_of-same, number_of-below, number_of-digits, digit_of-number}
-use Rattle.sign_moves.specs.Moves.{IsReversible, Reaches, stay, move}
+use Rattle.tensor_rank.specs.Prelude.{digit_of, number_of, number_of-same, number_of-below, number_of-digits, digit_of-number}
+use Rattle.sign_moves.specs.Prelude.{IsReversible, Reaches, stay, move, times}
 use Rattle.tensor_defs.specs.declared.Sign.TheVariants.{Plus}
-use Rattle.sign_moves.specs.Signs.{times}
 use Rattle.tensor_defs.specs.declared.Sign.{Sign}
 use Rattle.constraint_rows.specs.declared.ops.PlainOp.{PlainOp}
 use Rattle.constraint_rows.specs.PlainOps.{image, entry_sign, signs_of, op_carried, op_sign, HasColumns, IsPermutation, ArePermutations, op_at, op_moves}

@@ -1,20 +1,15 @@
 -- The digits of a component make up where a signed permutation matrix carries it, and with which sign.
 --   small_parts, op_row    the parts of the digits, and their row
-use Rattle.std.proofs.Common.{◌≡◌, ℕ, ◌+◌, ◌-◌, ◌*◌, ◌/◌, ◌%◌, ◌^◌, ◌<◌, ◌≤◌, List, [], take, zero, suc, length, get_or, arith, ap, sym, ◌∙◌, refl, subst}
-use Rattle.std.proofs.Math.Nat.{pow-succ', mul-one}
-use Rattle.std.proofs.lemmas.List.{get_or-take, length-take-le}
+use Rattle.list_laws.proofs.Kit.{◌≡◌, ℕ, ◌+◌, ◌-◌, ◌*◌, ◌/◌, ◌%◌, ◌^◌, ◌<◌, ◌≤◌, List, [], take, zero, suc, length, get_or, arith, ap, sym, ◌∙◌, refl, subst}
+use Rattle.list_laws.proofs.Kit.{pow-succ', mul-one, get_or-take, length-take-le}
 use Rattle.tensor_defs.specs.declared.Sign.{Sign}
 use Rattle.sign_moves.specs.declared.tabled.Step.{Step}
-use Rattle.sign_moves.specs.Signs.{times, times_plus, times-times}
-use Rattle.sign_moves.specs.Tabling.{step_at}
-use Rattle.sign_moves.specs.Digits.{part_at, AreParts, digit_step, IsDigitRow}
-use Rattle.tensor_rank.specs.Digits.{digit_of, number_of}
-use Rattle.tensor_rank.specs.DigitLaws.{number_of-same}
+use Rattle.sign_moves.specs.Prelude.{times, times_plus, times-times, step_at, part_at, AreParts, digit_step, IsDigitRow}
+use Rattle.tensor_rank.specs.Prelude.{digit_of, number_of, number_of-same}
 use Rattle.tensor_rank.proofs.ExchangeLaws.{power_small}
 use Rattle.tensor_rank.proofs.ExchangeRowLaws.{digit_front, digit_last}
 use Rattle.constraint_rows.specs.declared.ops.PlainOp.{PlainOp}
-use Rattle.constraint_rows.specs.PlainOps.{image, entry_sign, signs_of, op_carried, op_sign, HasColumns}
-use Rattle.constraint_rows.specs.OpRows.{op_step, op_part, IsOpRow}
+use Rattle.constraint_rows.specs.Prelude.{image, entry_sign, signs_of, op_carried, op_sign, HasColumns, op_step, op_part, IsOpRow}
 use Rattle.constraint_rows.proofs.OpLaws.{signs_of-same}
 
 step_of_part : (r : ℕ) (op : PlainOp) (k d : ℕ) → d < 3 → step_at (op_part r op k) d ≡ op_step op (3 ^ (r - 1 - k)) d

@@ -3,11 +3,9 @@
 --   three_stand    three rows stand for the operation
 use Rattle.std.proofs.Common.{◌≡◌, ◌≢◌, Bool, true, false, cond, get_or, refl, ap, sym, ◌∙◌, subst, ◌⊎◌, inl, inr, lit<}
 use Rattle.tensor_laws.proofs.ActionLaws.{half_of_two, half_of_minus_two}
-use Rattle.tensor_defs.specs.Number.{Number, neg, num_zero, num_one, whole}
-use Rattle.tensor_defs.specs.Frames.{IsUnit, OneUnit, IsPlain}
+use Rattle.tensor_defs.specs.Prelude.{Number, neg, num_zero, num_one, whole, IsUnit, OneUnit, IsPlain, Axis, x1, x2, x3, Operation, entry, value, Marks, sign}
+use Rattle.tensor_defs.specs.Prelude.{axis_place, axis_at}
 use Rattle.tensor_defs.specs.Operation as defs
-use Rattle.tensor_defs.specs.Operation.{Axis, x1, x2, x3, Operation, entry, value}
-use Rattle.tensor_defs.specs.Tensor.{Marks, sign, axis_place, axis_at}
 use Rattle.tensor_defs.specs.declared.Sign.TheVariants.{Plus, Minus}
 use Rattle.op_matrix.specs.declared.entry.Entry.{Entry}
 use Rattle.op_matrix.specs.declared.entry.Entry.TheVariants.{One, HalfRoot3, Half, Zero, MinusHalf, MinusHalfRoot3, MinusOne}
@@ -15,8 +13,7 @@ use Rattle.op_matrix.specs.View.{entry_of}
 use Rattle.op_matrix.proofs.Frames.{same_entry_of}
 use Rattle.sign_moves.specs.Signs.{signed}
 use Rattle.constraint_rows.specs.declared.ops.PlainOp.{PlainOp}
-use Rattle.constraint_rows.specs.PlainOps.{image, entry_sign, StandsFor}
-use Rattle.constraint_rows.specs.Reading.{RowReads, unit_column, row_negates}
+use Rattle.constraint_rows.specs.Prelude.{image, entry_sign, StandsFor, RowReads, unit_column, row_negates}
 use Rattle.constraint_rows.proofs.OpLaws.{permutation_told}
 use Rattle.constraint_rows.proofs.StandLaws.{number_at, zero_number, apart_columns}
 

@@ -2,41 +2,26 @@
 --   marked_settled, marked_sound    a marked table is sound
 --   marked_representatives    and tells the representatives
 --   IsAxisTable, axis_made, axis_settled, axis_sound, axis_representatives    for the numbers of a typed rank
-use Rattle.std.proofs.Common.{[], ◌≡◌, ℕ, ◌^◌, ◌<◌, Bool, true, false, cond, List, refl, ap, sym, ◌∙◌, arith, subst, ◌⊎◌, inl, inr}
+use Rattle.list_laws.proofs.Kit.{[], ◌≡◌, ℕ, ◌^◌, ◌<◌, Bool, true, false, cond, List, refl, ap, sym, ◌∙◌, arith, subst, ◌⊎◌, inl, inr, cases_Bool, both_ways}
 use Rattle.std.specs.Prelude.{Option, Some, None}
-use Rattle.std.proofs.lemmas.Bool.{cases_Bool, both_ways}
-use Rattle.tensor_rank.specs.Exchanges.{exchange_moves}
+use Rattle.tensor_rank.specs.Prelude.{exchange_moves, component_below_at, index_number_at, Ordering, before_at, before_of, ShapeValue, IsShapeOf}
+use Rattle.tensor_rank.specs.Prelude.{exchanges_of, AllWithin}
 use Rattle.list_laws.proofs.Tests.{same_truth}
-use Rattle.tensor_defs.specs.Elimination.{AreRepresentatives, IsDropped, IsRepresentative, IsSign}
-use Rattle.tensor_defs.specs.Frames.{AllOf, IsPlain}
-use Rattle.tensor_defs.specs.Jahn.{JahnSymbol, rank, body_brackets, HasSymmetry, IsInvariant}
-use Rattle.tensor_defs.specs.Number.{Number, mul, num_one}
-use Rattle.tensor_defs.specs.Operation.{Operation}
-use Rattle.tensor_defs.specs.Tensor.{Index, Marks, Tensor, coefficient, component_number, index_of}
+use Rattle.tensor_defs.specs.Prelude.{AreRepresentatives, IsDropped, IsRepresentative, IsSign, AllOf, IsPlain, JahnSymbol, rank, body_brackets, HasSymmetry}
+use Rattle.tensor_defs.specs.Prelude.{IsInvariant, Number, mul, num_one, Operation, Index, Marks, Tensor, coefficient, component_number, index_of}
 use Rattle.tensor_defs.specs.declared.Sign.{Sign}
 use Rattle.tensor_defs.specs.declared.Sign.TheVariants.{Plus, Minus}
 use Rattle.tensor_laws.proofs.ComponentNumbers.{length-index_of}
 use Rattle.magnetic_groups.specs.Sets.{In}
 use Rattle.sign_moves.specs.declared.classes.Entry.{Entry}
-use Rattle.sign_moves.specs.Classes.{entry_at, first_at, sign_at, vanishes_at}
-use Rattle.sign_moves.specs.Firsts.{AreSettled, IsFirstTable}
-use Rattle.sign_moves.specs.Moves.{IsReversible}
-use Rattle.sign_moves.specs.Signs.{signed}
+use Rattle.sign_moves.specs.Prelude.{entry_at, first_at, sign_at, vanishes_at, AreSettled, IsFirstTable, IsReversible, signed}
 use Rattle.sign_moves.proofs.FirstLaws.{first_same, firsts_tell}
 use Rattle.sign_moves.proofs.JoinedLaws.{joined_reversible, first_joined}
 use Rattle.tensor_rank.specs.declared.exchanges.Exchange.{Exchange}
-use Rattle.tensor_rank.specs.IndexLaws.{component_below_at, index_number_at}
-use Rattle.tensor_rank.specs.Orders.{Ordering, before_at, before_of}
-use Rattle.tensor_rank.specs.ShapeValue.{ShapeValue}
-use Rattle.tensor_rank.specs.Shapes.{IsShapeOf}
-use Rattle.tensor_rank.specs.Symmetry.{exchanges_of}
-use Rattle.tensor_rank.specs.Within.{AllWithin}
 use Rattle.tensor_rank.proofs.ExchangeIndex.{numbered}
 use Rattle.tensor_rank.proofs.ExchangeLaws.{exchanges_reversible}
-use Rattle.constraint_rows.specs.Classes.{IsGeneratedBy, class_at, moves_of}
-use Rattle.constraint_rows.specs.Marking.{AreMarked, IsMarked}
-use Rattle.constraint_rows.specs.PlainOps.{StandForAll, op_moves}
-use Rattle.constraint_rows.specs.WordRows.{AreSound, IsKilled, IsOwn, carried_to, carrier_of}
+use Rattle.constraint_rows.specs.Prelude.{IsGeneratedBy, class_at, moves_of, AreMarked, IsMarked, StandForAll, op_moves, AreSound, IsKilled, IsOwn}
+use Rattle.constraint_rows.specs.Prelude.{carried_to, carrier_of}
 use Rattle.constraint_rows.proofs.ClassLaws.{not_zero_by_table, path_carried, turned_class, zero_by_table}
 use Rattle.constraint_rows.proofs.DiagonalLaws.{killed_along, own_carried}
 use Rattle.constraint_rows.proofs.InvariantLaws.{all_moves, invariant_kept}

@@ -8,15 +8,10 @@ use lib.IntN.{negsuc}
 use Rattle.op_matrix.specs.Table.{place}
 use Rattle.op_matrix.proofs.Listed.{Placed, plain_placed}
 use Rattle.op_matrix.proofs.Determinants.{unit_determinant}
-use Rattle.tensor_laws.proofs.ActionLaws.{half_of_two, half_of_none, half_of_minus_two}
-use Rattle.tensor_laws.proofs.Indices.{axis_cases}
-use Rattle.tensor_laws.proofs.ComponentNumbers.{axis_at-place}
-use Rattle.tensor_defs.specs.Number.{Number, mul, num_zero, num_one, whole, half_of}
+use Rattle.tensor_laws.proofs.Prelude.{half_of_two, half_of_none, half_of_minus_two, axis_cases, axis_at-place}
+use Rattle.tensor_defs.specs.Prelude.{Number, mul, num_zero, num_one, whole, half_of, Axis, x1, x2, x3, Entry, Operation, entry, value, determinant, nought}
+use Rattle.tensor_defs.specs.Prelude.{Marks, sign, axial_sign, time_sign, IsUnit, OneUnit, IsPlain, axis_place, axis_at}
 use Rattle.number_laws.proofs.NumberLaws.{num_mul-one}
-use Rattle.tensor_defs.specs.Operation.{Axis, x1, x2, x3, Entry, Operation, entry, value, determinant, nought}
-use Rattle.tensor_defs.specs.Tensor.{Marks, sign, axial_sign, time_sign}
-use Rattle.tensor_defs.specs.Frames.{IsUnit, OneUnit, IsPlain}
-use Rattle.tensor_defs.specs.Tensor.{axis_place, axis_at}
 use Rattle.tensor_defs.specs.declared.Sign.{Sign}
 use Rattle.tensor_defs.specs.declared.Sign.TheVariants.{Plus, Minus}
 use Rattle.sign_moves.specs.Signs.{signed, times}

@@ -12,28 +12,22 @@ use Rattle.std.proofs.lemmas.Bool.{eqb-true, cases_Bool}
 use Rattle.std.proofs.lemmas.List.{drop_all, map_push, length-append}
 use Rattle.std.proofs.lemmas.List.Elements.{filter-append}
 use Rattle.std.proofs.lemmas.Nat.{div-mul-add, mod-mul-add}
-use Rattle.tensor_laws.proofs.Indices.{same_own, same_told}
+use Rattle.tensor_laws.proofs.Prelude.{same_own, same_told, sum_indices-agree, length-index_of, number-index_of}
 use Rattle.tensor_rank.proofs.ExchangeLaws.{power_small}
 use native.Mathlib.Nat.{pow-suc}
 use lib.IntN.{negsuc}
 use Rattle.number_laws.proofs.NumberLaws.{num_add-zero, num_zero-add, num_add_assoc, num_mul-zero, num_mul-one}
-use Rattle.tensor_defs.specs.Elimination.{share}
-use Rattle.tensor_defs.specs.Lists.{Each}
-use Rattle.tensor_defs.specs.Number.{Number, add, mul, neg, num_zero, num_one, whole}
-use Rattle.tensor_defs.specs.Operation.{Axis, x1, x2, x3}
-use Rattle.tensor_defs.specs.Tensor.{Index, axis_at, component_number, digit, index_of, same_index, sum_indices}
-use Rattle.tensor_defs.specs.Words.{level, plus, minus, Letter, Word, words, belongs, twos, minus_twos, power_of_minus_one, even_row, odd_row}
+use Rattle.tensor_defs.specs.Prelude.{share, Each, Number, add, mul, neg, num_zero, num_one, whole, Axis, x1, x2, x3, Index, axis_at, component_number, digit}
+use Rattle.tensor_defs.specs.Prelude.{index_of, same_index, sum_indices, level, plus, minus, Letter, Word, words, belongs, twos, minus_twos}
+use Rattle.tensor_defs.specs.Prelude.{power_of_minus_one, even_row, odd_row}
 use Rattle.tensor_defs.specs.declared.Sign.{Sign}
 use Rattle.tensor_defs.specs.declared.Sign.TheVariants.{Plus, Minus}
-use Rattle.tensor_laws.proofs.Agreeing.{sum_indices-agree}
-use Rattle.tensor_laws.proofs.ComponentNumbers.{length-index_of, number-index_of}
 use Rattle.sign_moves.specs.declared.classes.Entry.{Entry}
 use Rattle.sign_moves.specs.Signs.{times, signed}
 use Rattle.sign_moves.proofs.SignLaws.{signed-signed}
 use Rattle.tensor_rank.specs.IndexLaws.{component_below_at, nth}
-use Rattle.constraint_rows.specs.Classes.{class_at}
-use Rattle.constraint_rows.specs.Gathering.{AreRowsBelow, AreTermsBelow, letter_of, letters, word_at, words_below, terms_from, turn_sign, part_row, part, unit, gathered}
-use Rattle.constraint_rows.specs.WordRows.{AreSound, AreWordRows, IsCarriedRow, carrier_of, carried_to}
+use Rattle.constraint_rows.specs.Prelude.{class_at, AreRowsBelow, AreTermsBelow, letter_of, letters, word_at, words_below, terms_from, turn_sign, part_row}
+use Rattle.constraint_rows.specs.Prelude.{part, unit, gathered, AreSound, AreWordRows, IsCarriedRow, carrier_of, carried_to}
 use Rattle.constraint_rows.specs.declared.rows.Part.{Part}
 use Rattle.constraint_rows.specs.declared.words.Term.{Term}
 use Rattle.constraint_rows.proofs.OpIndex.{signed_mul}

@@ -8,22 +8,11 @@
 use Rattle.std.specs.Prelude.{◌≡◌, ◌≢◌, ℕ, List, length, Contains, Option, Some, None}
 use Rattle.std.proofs.Common.{cond}
 use Rattle.tensor_defs.specs.declared.Sign.{Sign}
-use Rattle.tensor_defs.specs.Group.{Generated}
-use Rattle.tensor_defs.specs.Jahn.{JahnSymbol, rank}
-use Rattle.tensor_defs.specs.Number.{num_zero}
-use Rattle.tensor_defs.specs.Operation.{Operation}
-use Rattle.tensor_defs.specs.Tensor.{Index, coefficient}
+use Rattle.tensor_defs.specs.Prelude.{Generated, JahnSymbol, rank, num_zero, Operation, Index, coefficient}
 use Rattle.sign_moves.specs.declared.classes.Entry.{Entry}
-use Rattle.sign_moves.specs.Classes.{first_at, sign_at, vanishes_at}
-use Rattle.sign_moves.specs.Firsts.{IsFirstTable}
-use Rattle.sign_moves.specs.Joined.{joined}
-use Rattle.sign_moves.specs.Moves.{Moves, IsReversible}
+use Rattle.sign_moves.specs.Prelude.{first_at, sign_at, vanishes_at, IsFirstTable, joined, Moves, IsReversible}
 use Rattle.tensor_rank.specs.declared.exchanges.Exchange.{Exchange}
-use Rattle.tensor_rank.specs.Carried.{Exchanges}
-use Rattle.tensor_rank.specs.Exchanges.{exchange_moves}
-use Rattle.tensor_rank.specs.Orders.{Ordering, before_at}
-use Rattle.tensor_rank.specs.ShapeValue.{ShapeValue}
-use Rattle.tensor_rank.specs.Within.{AllWithin}
+use Rattle.tensor_rank.specs.Prelude.{Exchanges, exchange_moves, Ordering, before_at, ShapeValue, AllWithin}
 use Rattle.constraint_rows.specs.declared.ops.PlainOp.{PlainOp}
 use Rattle.constraint_rows.specs.PlainOps.{StandForAll, op_moves}
 

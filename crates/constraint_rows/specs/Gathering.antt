@@ -14,11 +14,8 @@ use Rattle.std.specs.Prelude.{◌≡◌, ℕ, zero, suc, ◌+◌, ◌*◌, ◌/�
 use lib.IntN.{ℤ, pos, negsuc, ◌+ℤ◌}
 use Rattle.tensor_defs.specs.declared.Sign.{Sign}
 use Rattle.tensor_defs.specs.declared.Sign.TheVariants.{Plus, Minus}
-use Rattle.tensor_defs.specs.Lists.{Each, IsRising}
-use Rattle.tensor_defs.specs.Number.{Number, num_zero}
-use Rattle.tensor_defs.specs.Operation.{Axis, x1, x2, x3}
-use Rattle.tensor_defs.specs.Tensor.{Index, index_of}
-use Rattle.tensor_defs.specs.Words.{Letter, level, plus, minus, Word, belongs, twos, minus_twos, power_of_minus_one}
+use Rattle.tensor_defs.specs.Prelude.{Each, IsRising, Number, num_zero, Axis, x1, x2, x3, Index, index_of, Letter, level, plus, minus, Word, belongs, twos}
+use Rattle.tensor_defs.specs.Prelude.{minus_twos, power_of_minus_one}
 use Rattle.sign_moves.specs.declared.classes.Entry.{Entry}
 use Rattle.sign_moves.specs.Signs.{times}
 use Rattle.constraint_rows.specs.Classes.{class_at}

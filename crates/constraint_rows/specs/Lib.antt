@@ -6,3 +6,4 @@ pub mod WordRows
 pub mod Marking
 pub mod Choices
 pub mod Gathering
+pub mod Prelude

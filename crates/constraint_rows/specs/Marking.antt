@@ -6,10 +6,7 @@
 --   AreMarked       the same for tables, component by component
 -- Source: this project's own.
 use Rattle.std.specs.Prelude.{◌≡◌, ◌↔◌, ℕ, ◌<◌, ◌⊎◌, true, List, length, get_or}
-use Rattle.tensor_defs.specs.Frames.{IsDiagonal}
-use Rattle.tensor_defs.specs.Number.{mul, neg, num_one}
-use Rattle.tensor_defs.specs.Operation.{Operation, identity}
-use Rattle.tensor_defs.specs.Tensor.{Index, Marks, coefficient, index_of, sign}
+use Rattle.tensor_defs.specs.Prelude.{IsDiagonal, mul, neg, num_one, Operation, identity, Index, Marks, coefficient, index_of, sign}
 use Rattle.magnetic_groups.specs.Sets.{In}
 use Rattle.sign_moves.specs.declared.classes.Entry.{Entry}
 use Rattle.sign_moves.specs.Classes.{entry_at}

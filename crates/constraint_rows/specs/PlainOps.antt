@@ -10,13 +10,9 @@ use Rattle.std.specs.Prelude.{◌≡◌, ◌≢◌, ℕ, ◌<◌, List, [], leng
 use Rattle.std.proofs.Common.{cond, zero, suc}
 use Rattle.tensor_defs.specs.declared.Sign.{Sign}
 use Rattle.tensor_defs.specs.declared.Sign.TheVariants.{Plus, Minus}
-use Rattle.sign_moves.specs.Signs.{times, signed}
-use Rattle.tensor_defs.specs.Number.{num_zero, num_one}
-use Rattle.tensor_defs.specs.Operation.{Axis, Operation, value, identity}
-use Rattle.tensor_defs.specs.Tensor.{Marks, sign}
-use Rattle.tensor_defs.specs.Tensor.{axis_place, axis_at}
+use Rattle.sign_moves.specs.Prelude.{times, signed, Moves}
+use Rattle.tensor_defs.specs.Prelude.{num_zero, num_one, Axis, Operation, value, identity, Marks, sign, axis_place, axis_at}
 use Rattle.tensor_rank.specs.Digits.{digit_of, number_of}
-use Rattle.sign_moves.specs.Moves.{Moves}
 use Rattle.constraint_rows.specs.declared.ops.PlainOp.{PlainOp}
 
 -- the column in which a row has its entry

@@ -8,9 +8,7 @@ use Rattle.std.proofs.Common.{cond}
 use Rattle.op_matrix.specs.declared.entry.Entry.{Entry}
 use Rattle.op_matrix.specs.declared.entry.Entry.TheVariants.{One, HalfRoot3, Half, Zero, MinusHalf, MinusHalfRoot3, MinusOne}
 use Rattle.tensor_defs.specs.declared.Sign.TheVariants.{Plus, Minus}
-use Rattle.tensor_defs.specs.Number.{Number, num_zero, num_one}
-use Rattle.tensor_defs.specs.Operation.{Axis}
-use Rattle.tensor_defs.specs.Tensor.{axis_place, axis_at}
+use Rattle.tensor_defs.specs.Prelude.{Number, num_zero, num_one, Axis, axis_place, axis_at}
 use Rattle.sign_moves.specs.Signs.{signed}
 
 abbrev pub is_unit : Entry → Bool

@@ -14,13 +14,8 @@ use Rattle.std.specs.Prelude.{◌≡◌, ◌≢◌, ℕ, ◌<◌, ◌≤◌, ◌
 use lib.IntN.{pos}
 use Rattle.tensor_defs.specs.declared.Sign.{Sign}
 use Rattle.tensor_defs.specs.declared.Sign.TheVariants.{Plus}
-use Rattle.tensor_defs.specs.Elimination.{Carrier, share}
-use Rattle.tensor_defs.specs.Frames.{IsDiagonal}
-use Rattle.tensor_defs.specs.Lists.{Each, IsRising}
-use Rattle.tensor_defs.specs.Number.{Number, add, mul, neg, num_one, num_zero, whole, limit}
-use Rattle.tensor_defs.specs.Operation.{Operation}
-use Rattle.tensor_defs.specs.Tensor.{Index, Marks, Tensor, coefficient, component_number, index_of, sign, sum_indices}
-use Rattle.tensor_defs.specs.Words.{Word, even_row, odd_row}
+use Rattle.tensor_defs.specs.Prelude.{Carrier, share, IsDiagonal, Each, IsRising, Number, add, mul, neg, num_one, num_zero, whole, limit, Operation, Index}
+use Rattle.tensor_defs.specs.Prelude.{Marks, Tensor, coefficient, component_number, index_of, sign, sum_indices, Word, even_row, odd_row}
 use Rattle.sign_moves.specs.declared.classes.Entry.{Entry}
 use Rattle.sign_moves.specs.Signs.{signed}
 use Rattle.constraint_rows.specs.Classes.{class_at}

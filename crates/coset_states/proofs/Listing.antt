@@ -1,18 +1,13 @@
 -- The listing of left cosets, each once, by one pass over the whole group.
 --   listing_none, listing_past, group_placed, listing_new, listed_states, listing_step ..    the loop over G
-use Rattle.std.proofs.Common.{◌≡◌, ◌≢◌, ℕ, zero, suc, ◌+◌, ◌-◌, ◌<◌, ◌≤◌, Bool, true, false, List, [], ◌∷◌, ◌++◌, length, refl, ap, sym, ◌∙◌, arith, subst, ◌⊎◌, inl, inr}
+use Rattle.list_laws.proofs.Kit.{◌≡◌, ◌≢◌, ℕ, zero, suc, ◌+◌, ◌-◌, ◌<◌, ◌≤◌, Bool, true, false, List, [], ◌∷◌, ◌++◌, length, refl, ap, sym, ◌∙◌, arith, subst}
+use Rattle.list_laws.proofs.Kit.{◌⊎◌, inl, inr, nat_tests, length-set, get_or-set_same, get_or-set_other, get_or_append_left, length_push, get_or_push}
+use Rattle.list_laws.proofs.Kit.{get_or_default, Contains-push_cases, Contains-get_or, cases_lt}
 use Rattle.std.specs.Prelude.{nat_eq, replicate, set, slice_index_or, Contains, IsTrue}
-use Rattle.std.proofs.lemmas.Bool.Decides.{nat_tests}
-use Rattle.std.proofs.lemmas.List.{length-set, get_or-set_same, get_or-set_other, get_or_append_left, length_push, get_or_push, get_or_default}
-use Rattle.tensor_defs.specs.Operation.{Operation, IsProduct}
-use Rattle.tensor_defs.specs.OperationOrder.{comes_before}
+use Rattle.tensor_defs.specs.Prelude.{Operation, IsProduct, comes_before, AreStates}
 use Rattle.tensor_laws.proofs.Products.{product_unique}
 use Rattle.op_matrix.specs.Table.{nth_operation, place}
-use Rattle.std.proofs.lemmas.List.Elements.{Contains-push_cases, Contains-get_or}
-use Rattle.std.proofs.lemmas.Bool.{cases_lt}
-use Rattle.list_laws.proofs.Rising.{rising_push, rising_at}
-use Rattle.list_laws.proofs.Members.{each_push, each_from}
-use Rattle.tensor_defs.specs.States.{AreStates}
+use Rattle.list_laws.proofs.Prelude.{rising_push, rising_at, each_push, each_from}
 use Rattle.op_matrix.proofs.Listed.{plain_placed, hex_placed}
 use Rattle.magnetic_groups.specs.Sets.{HaveFrame, In, IsGroup, IsWithin}
 use Rattle.magnetic_groups.proofs.Cosets.{coset_self, coset_within, coset_sym, coset_trans}

@@ -1,10 +1,8 @@
 -- What is read off the numbers of states.
-use Rattle.std.proofs.Common.{◌≡◌, ◌≢◌, ℕ, ◌+◌, ◌-◌, ◌<◌, ◌≤◌, Bool, true, List, length, refl, ap, sym, ◌∙◌, arith, subst}
+use Rattle.list_laws.proofs.Kit.{◌≡◌, ◌≢◌, ℕ, ◌+◌, ◌-◌, ◌<◌, ◌≤◌, Bool, true, List, length, refl, ap, sym, ◌∙◌, arith, subst, nat_tests, slice_get-get_or}
+use Rattle.list_laws.proofs.Kit.{same_Some, slice_get_within}
 use Rattle.std.specs.Prelude.{slice_index_or, slice_get, Contains, ◌↔◌, IsTrue, Some, None, nat_eq}
-use Rattle.std.proofs.lemmas.Bool.Decides.{nat_tests}
-use Rattle.std.proofs.lemmas.Option.{slice_get-get_or, same_Some, slice_get_within}
-use Rattle.tensor_defs.specs.Operation.{Operation}
-use Rattle.tensor_defs.specs.States.{Times, IsState, AreStates}
+use Rattle.tensor_defs.specs.Prelude.{Operation, Times, IsState, AreStates}
 use Rattle.op_matrix.specs.Table.{nth_operation, place}
 use Rattle.magnetic_groups.specs.Sets.{In, IsWithin}
 use Rattle.coset_states.specs.Numbering.{Cosets, state_at, InCoset, IsKept}

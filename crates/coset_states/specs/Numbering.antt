@@ -6,10 +6,7 @@
 --   IsKept       what the parts of a list of states have to do with one another
 -- Source: International Tables D 3.4.
 use Rattle.std.specs.Prelude.{◌≡◌, ◌≢◌, ℕ, ◌+◌, ◌<◌, ◌≤◌, List, length, slice_index_or, Contains, ◌⊎◌, IsTrue, Option, Some, None}
-use Rattle.tensor_defs.specs.Operation.{Operation, IsProduct}
-use Rattle.tensor_defs.specs.Lists.{Each, IsRising}
-use Rattle.tensor_defs.specs.OperationOrder.{comes_before}
-use Rattle.tensor_defs.specs.States.{Times, IsState}
+use Rattle.tensor_defs.specs.Prelude.{Operation, IsProduct, Each, IsRising, comes_before, Times, IsState}
 use Rattle.op_matrix.specs.Table.{nth_operation, place}
 use Rattle.magnetic_groups.specs.Sets.{In, IsGroup, IsWithin}
 

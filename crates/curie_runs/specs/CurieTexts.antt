@@ -6,11 +6,8 @@
 -- Source: this project's own.
 use Rattle.std.specs.Prelude.{◌≡◌, ℕ, List, [], ◌∷◌, ◌++◌, ◌^◌, codes, get_or, length, Result, Ok, Err}
 use Rattle.std.specs.Fmt.{decimal}
-use Rattle.tensor_defs.specs.Jahn.{JahnSymbol, rank}
-use Rattle.tensor_defs.specs.Table.{Table}
-use Rattle.text_defs.specs.AnswerTexts.{line_of, table_text}
-use Rattle.text_defs.specs.JahnTexts.{jahn_text}
-use Rattle.text_defs.specs.Languages.{IsFaulty}
+use Rattle.tensor_defs.specs.Prelude.{JahnSymbol, rank, Table}
+use Rattle.text_defs.specs.Prelude.{line_of, table_text, jahn_text, IsFaulty}
 use Rattle.text_defs.specs.declared.Fault.{Fault}
 use Rattle.limiting_defs.specs.declared.Curie.{Curie}
 use Rattle.limiting_defs.specs.declared.Curie.TheVariants.{Inf, InfM, Inf2, InfOverM, InfOverMM}

@@ -8,10 +8,8 @@
 --   IsCurieAnswer   the one text that is defined for these words
 -- Source: this project's own.
 use Rattle.std.specs.Prelude.{◌≡◌, ◌⊎◌, ℕ, ◌+◌, ◌<◌, ◌≤◌, List, [], ◌∷◌, ◌++◌, codes, get_or, length}
-use Rattle.tensor_defs.specs.Jahn.{JahnSymbol, rank}
-use Rattle.tensor_defs.specs.Table.{Table}
-use Rattle.text_defs.specs.JahnTexts.{IsJahnText, SpellsJahn}
-use Rattle.text_defs.specs.Languages.{IsFaulty}
+use Rattle.tensor_defs.specs.Prelude.{JahnSymbol, rank, Table}
+use Rattle.text_defs.specs.Prelude.{IsJahnText, SpellsJahn, IsFaulty}
 use Rattle.limiting_defs.specs.declared.Curie.{Curie}
 use Rattle.limiting_groups.specs.CurieTables.{CurieGrows, FitsCurie}
 use Rattle.tool_runs.specs.Tools.{FirstLong, IsToolText, NoneLong, Words}

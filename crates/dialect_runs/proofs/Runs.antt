@@ -4,8 +4,7 @@
 --   refused_run        a refusal
 use Rattle.std.proofs.Common.{◌≡◌, ◌∙◌, ◌+◌, ℕ, List, [], ◌∷◌, length, get_or, refl, sym, ap, subst, arith, inl, inr}
 use Rattle.std.proofs.Common.{Result, Ok, Err, IfOk}
-use Rattle.tensor_defs.specs.Symbols.{GroupSymbol}
-use Rattle.tensor_defs.specs.Group.{IsAccepted}
+use Rattle.tensor_defs.specs.Prelude.{GroupSymbol, IsAccepted}
 use Rattle.dialects.specs.declared.write.Dialect.{Dialect}
 use Rattle.dialects.specs.declared.write.Dialect.TheVariants.{Short, Long, Schoenflies}
 use Rattle.dialects.specs.Naming.{Names}

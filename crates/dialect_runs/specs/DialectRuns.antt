@@ -7,8 +7,7 @@
 --   IsDialectRun     the one text that is defined for the words
 -- Source: this project's own.
 use Rattle.std.specs.Prelude.{◌≡◌, ◌≢◌, ℕ, ◌+◌, List, [], ◌∷◌, ◌++◌, codes, Option, Some, None}
-use Rattle.tensor_defs.specs.Symbols.{GroupSymbol}
-use Rattle.tensor_defs.specs.Group.{IsAccepted}
+use Rattle.tensor_defs.specs.Prelude.{GroupSymbol, IsAccepted}
 use Rattle.text_defs.specs.Languages.{IsFaulty}
 use Rattle.dialects.specs.declared.write.Dialect.{Dialect}
 use Rattle.dialects.specs.declared.write.Dialect.TheVariants.{Short, Long, Schoenflies}

@@ -4,10 +4,9 @@
 --   apart              the group of an accepted symbol that isn't grey doesn't hold both
 --   symbol_bits        the primes of an accepted symbol that isn't grey, told by the primed operators in its group
 --   pieces_marked      the operators of its long text, each a product of operators of the symbol
-use Rattle.std.proofs.Common.{◌≡◌, ◌∙◌, ◌<◌, ◌/◌, ◌%◌, ◌==◌, ◌↔◌, IsTrue, ℕ, zero, suc, Bool, true, false, List, [], ◌∷◌}
-use Rattle.std.proofs.Common.{get_or, nat_eq, refl, sym, ap, subst, arith, inl, inr, lit<}
+use Rattle.list_laws.proofs.Kit.{◌≡◌, ◌∙◌, ◌<◌, ◌/◌, ◌%◌, ◌==◌, ◌↔◌, IsTrue, ℕ, zero, suc, Bool, true, false, List, [], ◌∷◌, get_or, nat_eq, refl, sym, ap}
+use Rattle.list_laws.proofs.Kit.{subst, arith, inl, inr, lit<, Contains-append_left, Contains-append_right, ltb-true, eqb-true}
 use Rattle.std.specs.Prelude.{Option, Some, None, Contains, nat_lt, if◌then◌else◌}
-use Rattle.std.proofs.lemmas.List.Elements.{Contains-append_left, Contains-append_right}
 use mathlib.Core.Bool.{xor}
 use Rattle.tensor_defs.specs.declared.OpKind.{OpKind}
 use Rattle.tensor_defs.specs.declared.OpKind.TheVariants.{Two, Three, Four, Six, Bar1, Bar3, Bar4, Bar6, Mirror}
@@ -15,16 +14,10 @@ use Rattle.tensor_defs.specs.declared.Direction.{Direction}
 use Rattle.tensor_defs.specs.declared.Direction.TheVariants as direction
 use Rattle.tensor_defs.specs.declared.Setting.{Setting}
 use Rattle.tensor_defs.specs.declared.Setting.TheVariants.{Default, X, Z, XY, D, P}
-use Rattle.tensor_defs.specs.Lists.{Each}
-use Rattle.tensor_defs.specs.Operation.{Operation, reversal, identity}
-use Rattle.tensor_defs.specs.Symbols.{GroupSymbol, IsGroupSymbol, Operator, operation_of, turned_to, takes_setting, listed}
-use Rattle.tensor_defs.specs.Symbols.{operations_of, parent_operators, generators}
-use Rattle.tensor_defs.specs.Group.{InGroup, IsAccepted}
+use Rattle.tensor_defs.specs.Prelude.{Each, Operation, reversal, identity, GroupSymbol, IsGroupSymbol, Operator, operation_of, turned_to, takes_setting}
+use Rattle.tensor_defs.specs.Prelude.{listed, operations_of, parent_operators, generators, InGroup, IsAccepted}
 use Rattle.tensor_laws.proofs.Products.{product_unique}
-use Rattle.std.proofs.lemmas.Bool.{ltb-true, eqb-true}
-use Rattle.list_laws.proofs.Below.{all_below, below_told}
-use Rattle.list_laws.proofs.Tests.{implied}
-use Rattle.list_laws.proofs.Members.{each_held}
+use Rattle.list_laws.proofs.Prelude.{all_below, below_told, implied, each_held}
 use Rattle.op_matrix.specs.Table.{operation_at, matrix_place}
 use Rattle.op_matrix.proofs.Frames.{also, three_told}
 use Rattle.op_matrix.proofs.Products.{product_code, frame_code, common, product_at}

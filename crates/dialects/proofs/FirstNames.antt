@@ -2,14 +2,10 @@
 --   first_named      each name has a first parent
 --   one_read_name    no name is read as two symbols
 --   NamedBelow       S6, and the names of the parents below a number
-use Rattle.std.proofs.Common.{◌≡◌, ◌⊎◌, ◌∙◌, ◌<◌, ◌≤◌, ◌+◌, ℕ, zero, suc, Bool, true, false, cond, List}
-use Rattle.std.proofs.Common.{max, refl, sym, ap, arith, inl, inr}
+use Rattle.list_laws.proofs.Kit.{◌≡◌, ◌⊎◌, ◌∙◌, ◌<◌, ◌≤◌, ◌+◌, ℕ, zero, suc, Bool, true, false, cond, List, max, refl, sym, ap, arith, inl, inr, cases_lt}
 use Rattle.std.specs.Prelude.{codes}
-use Rattle.std.proofs.lemmas.Bool.{cases_lt}
-use Rattle.list_laws.proofs.Below.{all_below, below_told}
-use Rattle.list_laws.proofs.Tests.{same_numbers_told, same_numbers_own}
-use Rattle.tensor_defs.specs.Lists.{same_numbers_in}
-use Rattle.tensor_defs.specs.Symbols.{GroupSymbol}
+use Rattle.list_laws.proofs.Prelude.{all_below, below_told, same_numbers_told, same_numbers_own}
+use Rattle.tensor_defs.specs.Prelude.{same_numbers_in, GroupSymbol}
 use Rattle.dialects.specs.ClassNames.{class_name, plain_symbol, IsFirstOf, IsReadName}
 use Rattle.dialects.specs.Naming.{IsDialectText}
 use Rattle.dialects.specs.Searches.{IsPast, IsThis}

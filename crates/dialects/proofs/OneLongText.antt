@@ -2,8 +2,7 @@
 use Rattle.std.proofs.Common.{◌≡◌, ◌∙◌, ◌<◌, ℕ, Bool, true, false, List, nat_eq, refl, sym, ap, subst, inl, inr}
 use Rattle.tensor_defs.specs.Symbols.{GroupSymbol}
 use Rattle.std.proofs.lemmas.Bool.{eqb-true, eq-eqb}
-use Rattle.list_laws.proofs.Below.{all_below, below_told}
-use Rattle.list_laws.proofs.Tests.{implied}
+use Rattle.list_laws.proofs.Prelude.{all_below, below_told, implied}
 use Rattle.op_matrix.proofs.Hexagonal.{implies}
 use Rattle.dialects.specs.LongTexts.{form_at, has_form, IsFormText, IsShortText}
 use Rattle.dialects.specs.Laws.{OneLongText}

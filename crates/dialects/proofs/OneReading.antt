@@ -1,8 +1,6 @@
 -- At most one answer to a word is right.
-use Rattle.std.proofs.Common.{◌≡◌, ℕ, List, Ok, Err, refl, ap, subst, arith, inl, inr}
-use Rattle.std.proofs.lemmas.Bool.{cases_lt}
-use Rattle.tensor_defs.specs.Symbols.{GroupSymbol}
-use Rattle.tensor_defs.specs.Group.{IsAccepted}
+use Rattle.list_laws.proofs.Kit.{◌≡◌, ℕ, List, Ok, Err, refl, ap, subst, arith, inl, inr, cases_lt}
+use Rattle.tensor_defs.specs.Prelude.{GroupSymbol, IsAccepted}
 use Rattle.text_defs.specs.Languages.{IsFaulty}
 use Rattle.dialects.specs.declared.fault.DialectFault.TheVariants.{Syntax, Primes, NoMemory}
 use Rattle.dialects.specs.Naming.{Names, IsDialectText}

@@ -3,23 +3,17 @@
 --   one_form_symbol    no word is the long text of two symbols
 --   no_dot             no text that spells a symbol has a dot; long texts of forms have one
 --   plain_start        such texts don't begin with a capital letter, as names do
-use Rattle.std.proofs.Common.{◌≡◌, ◌⊎◌, ◌↔◌, ◌∙◌, ◌<◌, ◌≤◌, ◌-◌, ◌*◌, ◌/◌, ◌%◌, ◌^◌, ◌==◌, ℕ, zero, suc, Bool, true, false, cond, IsTrue}
-use Rattle.std.proofs.Common.{List, [], ◌∷◌, ◌++◌, length, get_or, nat_eq, refl, sym, ap, subst, arith, inl, inr, lit<}
+use Rattle.list_laws.proofs.Kit.{◌≡◌, ◌⊎◌, ◌↔◌, ◌∙◌, ◌<◌, ◌≤◌, ◌-◌, ◌*◌, ◌/◌, ◌%◌, ◌^◌, ◌==◌, ℕ, zero, suc, Bool, true, false, cond, IsTrue, List, [], ◌∷◌}
+use Rattle.list_laws.proofs.Kit.{◌++◌, length, get_or, nat_eq, refl, sym, ap, subst, arith, inl, inr, lit<, append_cancel_left, append_cancel_right, pow-suc}
+use Rattle.list_laws.proofs.Kit.{nat_tests, Contains-get_or}
 use Rattle.std.specs.Prelude.{Contains, nat_lt}
-use Rattle.std.proofs.lemmas.List.{append_cancel_left, append_cancel_right}
-use Rattle.std.proofs.Math.Nat.{pow-suc}
-use Rattle.std.proofs.lemmas.Bool.Decides.{nat_tests}
-use Rattle.std.proofs.lemmas.List.Elements.{Contains-get_or}
 use Rattle.tensor_defs.specs.declared.Setting.{Setting}
 use Rattle.tensor_defs.specs.declared.OpKind.TheVariants.{Two}
 use Rattle.tensor_defs.specs.declared.Direction.TheVariants.{X}
-use Rattle.tensor_defs.specs.Lists.{Each}
-use Rattle.tensor_defs.specs.Symbols.{GroupSymbol, IsGroupSymbol, Operator, parent_texts, parent_text, parent_operators}
+use Rattle.tensor_defs.specs.Prelude.{Each, GroupSymbol, IsGroupSymbol, Operator, parent_texts, parent_text, parent_operators}
 use Rattle.text_defs.specs.GroupTexts.{ends_operator, with_primes, suffix_at, grey_text, setting_text, SpellsGroup}
 use Rattle.text_laws.proofs.GroupUnique.{one_symbol}
-use Rattle.list_laws.proofs.Below.{all_below, below_told}
-use Rattle.list_laws.proofs.Tests.{both}
-use Rattle.list_laws.proofs.Members.{each_held}
+use Rattle.list_laws.proofs.Prelude.{all_below, below_told, both, each_held}
 use Rattle.op_matrix.proofs.Frames.{also}
 use Rattle.group_symbol.proofs.WrittenTexts.{written_spells}
 use Rattle.dialects.specs.ClassNames.{class_name, IsReadName}

@@ -7,8 +7,7 @@
 use Rattle.std.proofs.Common.{◌≡◌, ◌≢◌, ◌⊎◌, ◌<◌, ◌≤◌, ◌+◌, ℕ, ◌++◌, List, [], length, take, get_or, max, refl, sym, subst, arith, inl, inr, lit<, lit≤}
 use Rattle.std.proofs.lemmas.Bool.{cases_lt}
 use Rattle.tensor_defs.specs.Symbols.{GroupSymbol, IsGroupSymbol, parent_operators}
-use Rattle.text_defs.specs.Languages.{IsFaulty, Begins}
-use Rattle.text_defs.specs.GroupTexts.{SpellsGroup, IsGroupText, group_text}
+use Rattle.text_defs.specs.Prelude.{IsFaulty, Begins, SpellsGroup, IsGroupText, group_text}
 use Rattle.fault_places.proofs.Furthest.{single_faulty}
 use Rattle.group_symbol.proofs.WrittenTexts.{written_spells}
 use Rattle.dialects.specs.ClassNames.{plain_symbol, IsReadName}

@@ -3,13 +3,11 @@
 --   pattern_compared    the text of the symbol with a pattern against the word
 --   PrimesBelow         the grey symbol, and the first patterns of primes
 --   setting_all, form_all    all patterns of primes, all settings
-use Rattle.std.proofs.Common.{◌≡◌, ◌↔◌, ◌⊎◌, ◌∙◌, ◌<◌, ◌+◌, ℕ, Bool, true, false, IsTrue, List, [], ◌∷◌, ◌++◌}
-use Rattle.std.proofs.Common.{Result, Ok, Err, max, get_or, refl, sym, ap, subst, arith, lit<, inl, inr}
-use Rattle.std.proofs.lemmas.Bool.{cases_lt}
+use Rattle.list_laws.proofs.Kit.{◌≡◌, ◌↔◌, ◌⊎◌, ◌∙◌, ◌<◌, ◌+◌, ℕ, Bool, true, false, IsTrue, List, [], ◌∷◌, ◌++◌, Result, Ok, Err, max, get_or, refl, sym, ap}
+use Rattle.list_laws.proofs.Kit.{subst, arith, lit<, inl, inr, cases_lt}
 use Rattle.tensor_defs.specs.declared.Setting.{Setting}
 use Rattle.tensor_defs.specs.declared.Setting.TheVariants.{Default, X, Z, XY, D, P}
-use Rattle.tensor_defs.specs.Symbols.{GroupSymbol, IsGroupSymbol, operator_count}
-use Rattle.tensor_defs.specs.Group.{IsAccepted}
+use Rattle.tensor_defs.specs.Prelude.{GroupSymbol, IsGroupSymbol, operator_count, IsAccepted}
 use Rattle.text_defs.specs.declared.Fault.{Fault}
 use Rattle.text_defs.specs.GroupTexts.{grey_text, setting_text}
 use Rattle.group_symbol.specs.Readings.{symbol_of}

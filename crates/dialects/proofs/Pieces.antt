@@ -4,17 +4,11 @@
 --   form_text        the pieces, the ending, the grey suffix and the suffix of the setting make the long text
 --   no_form          a parent that isn't that of a form has none
 --   short_appended   a parent without a form: the text that is written for the symbol
-use Rattle.std.proofs.Common.{◌≡◌, ◌≢◌, ◌↔◌, ◌∙◌, ◌<◌, ◌≤◌, ◌+◌, ◌==◌, ℕ, Bool, true, false, IsTrue, List, [], ◌∷◌, ◌++◌}
-use Rattle.std.proofs.Common.{length, drop, get_or, refl, sym, ap, subst, lit<, append_assoc, append-nil, Some, Result, Ok, Err, OnOk, inr}
+use Rattle.list_laws.proofs.Kit.{◌≡◌, ◌≢◌, ◌↔◌, ◌∙◌, ◌<◌, ◌≤◌, ◌+◌, ◌==◌, ℕ, Bool, true, false, IsTrue, List, [], ◌∷◌, ◌++◌, length, drop, get_or, refl, sym}
+use Rattle.list_laws.proofs.Kit.{ap, subst, lit<, Some, Result, Ok, Err, OnOk, inr, ne_eqb, drop_more, drop_of_length-le}
+use Rattle.std.proofs.Common.{append_assoc, append-nil}
 use Rattle.std.specs.Prelude.{Contains, map}
-use Rattle.std.proofs.lemmas.Bool.{ne_eqb}
-use Rattle.std.proofs.lemmas.List.{drop_more}
-use Rattle.std.proofs.Math.ListN.{drop_of_length-le}
-use Rattle.tensor_defs.specs.Lists.{IsListing}
-use Rattle.tensor_defs.specs.Operation.{Operation}
-use Rattle.tensor_defs.specs.OperationOrder.{comes_before}
-use Rattle.tensor_defs.specs.Symbols.{GroupSymbol, IsGroupSymbol, Operator}
-use Rattle.tensor_defs.specs.Group.{InGroup, IsAccepted}
+use Rattle.tensor_defs.specs.Prelude.{IsListing, Operation, comes_before, GroupSymbol, IsGroupSymbol, Operator, InGroup, IsAccepted}
 use Rattle.text_defs.specs.GroupTexts.{grey_text, setting_text, group_text}
 use Rattle.dialects.specs.LongTexts.{form_at, has_form, HasPrimed, IsOperation, ArePieces, prime_text, IsFormText}
 use Rattle.dialects.specs.Answers.{AppendsLong}

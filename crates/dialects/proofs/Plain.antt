@@ -9,10 +9,8 @@ use Rattle.tensor_defs.specs.declared.Direction.{Direction}
 use Rattle.tensor_defs.specs.declared.Direction.TheVariants.{X, Y, Z, XY, XmY, XYZ}
 use Rattle.tensor_defs.specs.declared.Setting.{Setting}
 use Rattle.tensor_defs.specs.declared.Setting.TheVariants.{Default}
-use Rattle.tensor_defs.specs.Lists.{Each}
-use Rattle.tensor_defs.specs.Operation.{Operation, reversal}
-use Rattle.tensor_defs.specs.Symbols.{GroupSymbol, Operator, operation_of, turned_to, listed, operations_of, generators, parent_operators}
-use Rattle.tensor_defs.specs.Group.{IsProductOf, IsAccepted}
+use Rattle.tensor_defs.specs.Prelude.{Each, Operation, reversal, GroupSymbol, Operator, operation_of, turned_to, listed, operations_of, generators}
+use Rattle.tensor_defs.specs.Prelude.{parent_operators, IsProductOf, IsAccepted}
 use Rattle.dialects.specs.ClassNames.{plain_symbol, IsReadName}
 
 abbrev IsMarked : Bool → Option Operation → Type 0

@@ -6,12 +6,10 @@
 use Rattle.std.proofs.Common.{◌≡◌, ◌∙◌, ◌<◌, ◌+◌, ◌*◌, ◌/◌, ◌%◌, ℕ, zero, suc, Bool, true, false, cond, List, [], ◌∷◌, ◌++◌, nat_eq, refl, sym, ap, arith, lit<}
 use Rattle.tensor_defs.specs.declared.Setting.{Setting}
 use Rattle.tensor_defs.specs.declared.Setting.TheVariants.{Default, X, Z, XY, D, P}
-use Rattle.tensor_defs.specs.Lists.{same_numbers_in}
-use Rattle.tensor_defs.specs.Symbols.{GroupSymbol}
+use Rattle.tensor_defs.specs.Prelude.{same_numbers_in, GroupSymbol}
 use Rattle.text_defs.specs.GroupTexts.{grey_text, setting_text}
 use Rattle.std.proofs.lemmas.Bool.{eqb-true}
-use Rattle.list_laws.proofs.Below.{all_below, below_told}
-use Rattle.list_laws.proofs.Tests.{implied, same_numbers_own}
+use Rattle.list_laws.proofs.Prelude.{all_below, below_told, implied, same_numbers_own}
 use Rattle.op_matrix.proofs.Hexagonal.{implies}
 use Rattle.dialects.specs.LongTexts.{Piece, form_at, prime_text, ArePieces, IsFormText}
 

@@ -7,10 +7,8 @@
 --   TellsForm       the long form of a parent
 -- Source: this project's own.
 use Rattle.std.specs.Prelude.{◌≡◌, ℕ, ◌<◌, Bool, true, false, List, ◌++◌, Option, Some, None, Result, Ok, Err}
-use Rattle.tensor_defs.specs.Symbols.{GroupSymbol}
-use Rattle.tensor_defs.specs.Group.{IsAccepted}
-use Rattle.text_defs.specs.Languages.{IsFaulty}
-use Rattle.text_defs.specs.GroupTexts.{SpellsGroup, group_text}
+use Rattle.tensor_defs.specs.Prelude.{GroupSymbol, IsAccepted}
+use Rattle.text_defs.specs.Prelude.{IsFaulty, SpellsGroup, group_text}
 use Rattle.dialects.specs.declared.write.Dialect.{Dialect}
 use Rattle.dialects.specs.declared.write.Dialect.TheVariants.{Short, Long, Schoenflies}
 use Rattle.dialects.specs.declared.fault.DialectFault.{DialectFault}

@@ -6,9 +6,7 @@
 --   OneReading              at most one answer to a word is right, want of memory apart
 --   LongOperatorsAreElements  each operator of a long text, with its prime, is an element of the group
 use Rattle.std.specs.Prelude.{◌≡◌, ◌≢◌, ℕ, ◌≤◌, ◌↔◌, Bool, IsTrue, List, Contains, Result, Err}
-use Rattle.tensor_defs.specs.Operation.{Operation}
-use Rattle.tensor_defs.specs.Symbols.{GroupSymbol, IsGroupSymbol}
-use Rattle.tensor_defs.specs.Group.{InGroup, IsAccepted}
+use Rattle.tensor_defs.specs.Prelude.{Operation, GroupSymbol, IsGroupSymbol, InGroup, IsAccepted}
 use Rattle.text_defs.specs.GroupTexts.{group_text}
 use Rattle.dialects.specs.ClassNames.{class_name, plain_symbol, IsFirstOf}
 use Rattle.dialects.specs.LongTexts.{Piece, form_at, HasPrimed, IsFormText, IsLongText, IsOperation}

@@ -7,15 +7,12 @@
 --   IsLongText          the long text of an accepted symbol; for another parent the text that is written for it
 -- Source: full Hermann-Mauguin symbols as in International Tables for Crystallography A; the dot between positions is
 -- this project's own.
-use Rattle.std.specs.Prelude.{◌≡◌, ◌⊎◌, ◌↔◌, ℕ, ◌<◌, ◌==◌, ◌||◌, Bool, true, false, IsTrue, List, [], ◌∷◌, ◌++◌}
-use Rattle.std.specs.Prelude.{Some, get_or, codes}
+use Rattle.std.specs.Prelude.{◌≡◌, ◌⊎◌, ◌↔◌, ℕ, ◌<◌, ◌==◌, ◌||◌, Bool, true, false, IsTrue, List, [], ◌∷◌, ◌++◌, Some, get_or, codes}
 use Rattle.tensor_defs.specs.declared.OpKind.{OpKind}
 use Rattle.tensor_defs.specs.declared.OpKind.TheVariants.{Two, Four, Six, Bar3, Mirror}
 use Rattle.tensor_defs.specs.declared.Direction.{Direction}
 use Rattle.tensor_defs.specs.declared.Direction.TheVariants.{X, Y, Z, XmY, XYZ}
-use Rattle.tensor_defs.specs.Operation.{Operation}
-use Rattle.tensor_defs.specs.Symbols.{GroupSymbol, IsGroupSymbol, Operator, operation_of, turned_to}
-use Rattle.tensor_defs.specs.Group.{InGroup, IsAccepted}
+use Rattle.tensor_defs.specs.Prelude.{Operation, GroupSymbol, IsGroupSymbol, Operator, operation_of, turned_to, InGroup, IsAccepted}
 use Rattle.text_defs.specs.GroupTexts.{grey_text, setting_text, group_text}
 
 -- what stands before the sign of an operator and that sign, and the operator with its direction in the default setting

@@ -2,29 +2,18 @@
 --   marked_listing  the marked components are those that distinguish the state, in index order
 --   texts_more      one more state
 --   texts_same      the texts over sets with the same members
-use Rattle.std.proofs.Common.{◌≡◌, ℕ, zero, suc, ◌+◌, ◌<◌, ◌≤◌, ◌^◌, inl, inr, Bool, true, false, cond, List, [], ◌∷◌, ◌++◌, length, refl, ap, sym, ◌∙◌, arith, subst, append_assoc}
+use Rattle.list_laws.proofs.Kit.{◌≡◌, ℕ, zero, suc, ◌+◌, ◌<◌, ◌≤◌, ◌^◌, inl, inr, Bool, true, false, cond, List, [], ◌∷◌, ◌++◌, length, refl, ap, sym, ◌∙◌}
+use Rattle.list_laws.proofs.Kit.{arith, subst, cases_lt, nat_tests, Contains-append_cases, Contains-append_left, Contains-append_right}
+use Rattle.std.proofs.Common.{append_assoc}
 use Rattle.std.specs.Prelude.{Contains, IsTrue, nat_lt}
-use Rattle.std.proofs.lemmas.Bool.{cases_lt}
-use Rattle.std.proofs.lemmas.Bool.Decides.{nat_tests}
 use Rattle.std.proofs.lemmas.List.{append-nil}
-use Rattle.std.proofs.lemmas.List.Elements.{Contains-append_cases, Contains-append_left, Contains-append_right}
-use Rattle.list_laws.proofs.Lists.{held_cases, held_here}
-use Rattle.list_laws.proofs.Members.{each_from}
-use Rattle.list_laws.proofs.Rising.{rising_push}
-use Rattle.tensor_defs.specs.Group.{SameSet}
-use Rattle.tensor_defs.specs.Jahn.{JahnSymbol, rank}
-use Rattle.tensor_defs.specs.Lists.{IsListing, IsRising}
-use Rattle.tensor_defs.specs.Operation.{Operation}
-use Rattle.tensor_defs.specs.Orders.{index_before}
-use Rattle.tensor_defs.specs.StateRows.{Distinguishes, IsStateRow}
-use Rattle.tensor_defs.specs.Table.{Table}
-use Rattle.tensor_defs.specs.Tensor.{Index, component_number, index_of}
-use Rattle.tensor_laws.proofs.ComponentNumbers.{length-index_of, number-index_of}
-use Rattle.tensor_laws.proofs.Sets.{same_back}
+use Rattle.list_laws.proofs.Prelude.{held_cases, held_here, each_from, rising_push}
+use Rattle.tensor_defs.specs.Prelude.{SameSet, JahnSymbol, rank, IsListing, IsRising, Operation, index_before, Distinguishes, IsStateRow, Table, Index}
+use Rattle.tensor_defs.specs.Prelude.{component_number, index_of}
+use Rattle.tensor_laws.proofs.Prelude.{length-index_of, number-index_of, same_back}
 use Rattle.tensor_rank.specs.IndexLaws.{component_below_at, index_number_at}
 use Rattle.tensor_rank.proofs.OrderLaws.{index_order_at}
-use Rattle.text_defs.specs.Answers.{AreStateTexts, IsStateText}
-use Rattle.text_defs.specs.AnswerTexts.{state_text}
+use Rattle.text_defs.specs.Prelude.{AreStateTexts, IsStateText, state_text}
 use Rattle.table_answers.proofs.SetLaws.{same_admitted}
 use Rattle.state_marks.specs.Told.{StateValue, TellsState, mark_at, row_of}
 use Rattle.differ_answers.specs.Texts.{marked_below, marked_indices}

@@ -6,23 +6,12 @@ use Rattle.std.proofs.Common.{◌≢◌, ◌^◌, map, ◌≡◌, ℕ, suc, ◌+
 use Rattle.std.specs.Prelude.{slice_get, Some}
 use Rattle.std.proofs.lemmas.Option.{none-some, get_or_from_slice_get, slice_get_within}
 use Rattle.std.proofs.lemmas.List.{append-nil, take_more, take_all, length-drop, length-take-le}
-use Rattle.tensor_defs.specs.Group.{InGroup, SameSet}
-use Rattle.tensor_defs.specs.Jahn.{JahnSymbol, rank}
-use Rattle.tensor_defs.specs.Operation.{Operation}
-use Rattle.tensor_defs.specs.Orders.{index_before}
-use Rattle.tensor_defs.specs.StateRows.{RowsGrow, state_row}
-use Rattle.tensor_defs.specs.States.{AreStates}
-use Rattle.tensor_defs.specs.Symbols.{GroupSymbol}
-use Rattle.tensor_defs.specs.Table.{Fits, Table}
-use Rattle.tensor_defs.specs.Lists.{Each}
-use Rattle.tensor_defs.specs.Number.{IsRoot3, num_zero}
+use Rattle.tensor_defs.specs.Prelude.{InGroup, SameSet, JahnSymbol, rank, Operation, index_before, RowsGrow, state_row, AreStates, GroupSymbol, Fits, Table}
+use Rattle.tensor_defs.specs.Prelude.{Each, IsRoot3, num_zero, Marks, component_number, index_of}
 use Rattle.tensor_defs.specs.StateRows as defs
-use Rattle.tensor_defs.specs.Tensor.{Marks, component_number, index_of}
-use Rattle.tensor_laws.proofs.ComponentNumbers.{length-index_of, number-index_of}
-use Rattle.tensor_laws.proofs.Sets.{same_back}
+use Rattle.tensor_laws.proofs.Prelude.{length-index_of, number-index_of, same_back}
 use Rattle.reduced_form.specs.Forms.{FormValue, form_table}
-use Rattle.text_defs.specs.Answers.{AreStateTexts, IsDifferText}
-use Rattle.text_defs.specs.AnswerTexts.{differ_header, state_text}
+use Rattle.text_defs.specs.Prelude.{AreStateTexts, IsDifferText, differ_header, state_text}
 use Rattle.magnetic_groups.specs.Sets.{In, IsGroup}
 use Rattle.state_answers.proofs.SameSets.{states_same}
 use Rattle.table_answers.proofs.SetLaws.{fits_admitted, grows_same, same_admitted}

@@ -2,19 +2,15 @@
 --   sum_grown, sum_done    one more term of a sum, and all of them
 --   names_grown, names_done    one more name of a list, and all of them
 --   marked_lines    the equations of the components that differ
-use Rattle.std.proofs.Common.{◌≡◌, ℕ, zero, suc, ◌+◌, ◌<◌, ◌≤◌, ◌^◌, Bool, true, false, cond, List, [], ◌∷◌, ◌++◌, map, length, get_or, refl, ap, sym, ◌∙◌, arith, subst, append_assoc}
-use Rattle.std.specs.List.{flat_map}
+use Rattle.list_laws.proofs.Kit.{◌≡◌, ℕ, zero, suc, ◌+◌, ◌<◌, ◌≤◌, ◌^◌, Bool, true, false, cond, List, [], ◌∷◌, ◌++◌, map, length, get_or, refl, ap, sym, ◌∙◌}
+use Rattle.list_laws.proofs.Kit.{arith, subst, flat_map, decimal, flat_map-append, get_or-map, length-map, take_all}
+use Rattle.std.proofs.Common.{append_assoc}
 use Rattle.std.specs.Prelude.{codes, take}
-use Rattle.std.specs.Fmt.{decimal}
-use Rattle.std.proofs.lemmas.Grind.{flat_map-append}
-use Rattle.std.proofs.lemmas.List.{append-nil, get_or-map, length-map, take_all}
-use Rattle.tensor_defs.specs.Lists.{Each}
-use Rattle.tensor_defs.specs.Tensor.{Index, index_of}
+use Rattle.std.proofs.lemmas.List.{append-nil}
+use Rattle.tensor_defs.specs.Prelude.{Each, Index, index_of}
 use Rattle.tensor_laws.proofs.ComponentNumbers.{number-index_of}
-use Rattle.text_defs.specs.AnswerTexts.{component_name, equation, free_names, line_of, named_roots, or_none, state_text}
-use Rattle.text_defs.specs.NumberTexts.{NamedTerm, spaced, sum_text, term_text}
-use Rattle.reduced_form.specs.Forms.{FormValue, form_table, free_at}
-use Rattle.reduced_form.specs.Texts.{lines_upto, placed, sum_from}
+use Rattle.text_defs.specs.Prelude.{component_name, equation, free_names, line_of, named_roots, or_none, state_text, NamedTerm, spaced, sum_text, term_text}
+use Rattle.reduced_form.specs.Prelude.{FormValue, form_table, free_at, lines_upto, placed, sum_from}
 use Rattle.reduced_form.proofs.TextLaws.{sum_whole, name_read}
 use Rattle.state_marks.specs.declared.rows.RootTerm.{RootTerm}
 use Rattle.state_marks.specs.Sums.{root_term_of}

@@ -6,10 +6,8 @@
 --   marked_text     the equation of the component of a number, if it differs
 -- Source: this project's own.
 use Rattle.std.specs.Prelude.{ℕ, zero, suc, ◌<◌, ◌^◌, cond, List, [], ◌∷◌, ◌++◌, map}
-use Rattle.tensor_defs.specs.Lists.{Each}
-use Rattle.tensor_defs.specs.Tensor.{Index, index_of}
-use Rattle.text_defs.specs.AnswerTexts.{component_name, equation}
-use Rattle.text_defs.specs.NumberTexts.{NamedTerm}
+use Rattle.tensor_defs.specs.Prelude.{Each, Index, index_of}
+use Rattle.text_defs.specs.Prelude.{component_name, equation, NamedTerm}
 use Rattle.reduced_form.specs.Forms.{FormValue, free_at}
 use Rattle.state_marks.specs.declared.rows.RootTerm.{RootTerm}
 use Rattle.state_marks.specs.Told.{StateValue, mark_at, row_at}

@@ -5,14 +5,8 @@
 --   IsDifferOver    the text of an answer for the states of one set of operations under another
 -- Source: International Tables D 3.4.
 use Rattle.std.specs.Prelude.{◌≡◌, ℕ, List, ◌++◌, drop, length}
-use Rattle.tensor_defs.specs.Jahn.{JahnSymbol}
-use Rattle.tensor_defs.specs.Operation.{Operation}
-use Rattle.tensor_defs.specs.Orders.{index_before}
-use Rattle.tensor_defs.specs.StateRows.{RowsGrow}
-use Rattle.tensor_defs.specs.Symbols.{GroupSymbol}
-use Rattle.tensor_defs.specs.Table.{Fits, Table}
-use Rattle.text_defs.specs.Answers.{AreStateTexts}
-use Rattle.text_defs.specs.AnswerTexts.{differ_header}
+use Rattle.tensor_defs.specs.Prelude.{JahnSymbol, Operation, index_before, RowsGrow, GroupSymbol, Fits, Table}
+use Rattle.text_defs.specs.Prelude.{AreStateTexts, differ_header}
 use Rattle.coset_states.specs.declared.StateFault.{StateFault}
 use Rattle.coset_states.specs.declared.StateFault.TheVariants as states
 use Rattle.state_marks.specs.declared.faults.DifferFault.{DifferFault}

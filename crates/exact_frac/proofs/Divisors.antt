@@ -6,14 +6,12 @@
 --   sum-apart    p·r + q·l has no divisor in common with l where neither p nor r has
 --   product-lowest    the parts of a product, the common divisors crosswise taken out
 --   sum-lowest    p·r + q·l has no divisor in common with l·r, l and r being what is left of denominators m and n
-use Rattle.std.proofs.Common.{◌≡◌, ℕ, ◌+◌, ◌*◌, ◌/◌, ◌%◌, ◌<◌, ◌⊎◌, inl, inr, ap, sym, ◌∙◌, subst, arith}
+use Rattle.list_laws.proofs.Kit.{◌≡◌, ℕ, ◌+◌, ◌*◌, ◌/◌, ◌%◌, ◌<◌, ◌⊎◌, inl, inr, ap, sym, ◌∙◌, subst, arith, IsGcd, div-mul_cancel, dvd_of_mul-dvd-mul_right}
+use Rattle.list_laws.proofs.Kit.{mul-dvd-mul_right, one-dvd, eq-zero-or-pos, one-mul, IsGcd-swap, IsGcd-from_mod, unsigned_abs-mul}
 use Rattle.std.specs.Prelude.{unsigned_abs}
-use Rattle.std.specs.Int.{IsGcd}
 use Prim.Native.Nat.{◌∣◌}
-use Rattle.std.proofs.Math.Nat.{div-mul_cancel, dvd_of_mul-dvd-mul_right, mul-dvd-mul_right, one-dvd, eq-zero-or-pos, dvd_refl, one-mul}
+use Rattle.std.proofs.Math.Nat.{dvd_refl}
 use native.Mathlib.Nat.{dvd-mul_left_of_dvd, dvd-add_iff_right, dvd_trans}
-use Rattle.std.proofs.lemmas.Nat.Gcd.{IsGcd-swap, IsGcd-from_mod}
-use Rattle.std.proofs.lemmas.Int.{unsigned_abs-mul}
 use borrow.Author.Differences.{ints}
 use lib.IntN.{ℤ, pos, negsuc, ◌+ℤ◌, ◌*ℤ◌, +ℤ_comm}
 use Rattle.tensor_defs.specs.IntRing.{positive_mul}

@@ -6,14 +6,11 @@
 --   value-sum_same    a sum at one denominator, by its sign and size
 --   value-sum    a sum where the common divisor of the denominators is taken out
 --   held-below    no fraction that is held reaches the limit
-use Rattle.std.proofs.Common.{◌≡◌, ◌≢◌, ℕ, zero, suc, ◌*◌, ◌<◌, ◌≤◌, ◌⊎◌, Bool, inl, inr, refl, ap, sym, ◌∙◌, subst, arith, lit<}
+use Rattle.list_laws.proofs.Kit.{◌≡◌, ◌≢◌, ℕ, zero, suc, ◌*◌, ◌<◌, ◌≤◌, ◌⊎◌, Bool, inl, inr, refl, ap, sym, ◌∙◌, subst, arith, lit<, IsGcd, IsGcd-swap}
 use Rattle.std.specs.Prelude.{unsigned_abs}
-use Rattle.std.specs.Int.{IsGcd}
 use lib.IntN.{ℤ, pos, negsuc, ◌+ℤ◌, ◌*ℤ◌, neg_ℤ, *ℤ_comm}
-use Rattle.std.proofs.lemmas.Nat.Gcd.{IsGcd-swap}
 use Rattle.number_laws.proofs.Fractions.{over-whole}
-use Rattle.tensor_defs.specs.IntRing.{positive_mul, mul-zero_ℤ}
-use Rattle.tensor_defs.specs.Number.{Number, Fraction, IsLowest, value_of, over, add, mul, num_zero, num_one, ReachesLimit, limit}
+use Rattle.tensor_defs.specs.Prelude.{positive_mul, mul-zero_ℤ, Number, Fraction, IsLowest, value_of, over, add, mul, num_zero, num_one, ReachesLimit, limit}
 use Rattle.number_laws.proofs.Limit.{tells_limit, limit_told}
 use Rattle.exact_frac.specs.Held.{IsHeld, IsHeldAs, signed, is_negative, opposite, inverse_of, quotient}
 use Rattle.exact_frac.proofs.Overs.{over-scale, over-add_same, over-add_common, over-mul, over-same, over-zero}

@@ -5,10 +5,8 @@
 --   Through    behind its first n bytes the word goes on as a text of Rest
 --   Through-step, Through-stuck, Through-short, Through-start, Through-skip, Through-near, Through-first
 --       one byte more, where the word goes on as a text of A behind its first n bytes
-use Rattle.std.proofs.Common.{◌≡◌, ℕ, zero, suc, ◌+◌, ◌<◌, ◌≤◌, List, [], ◌∷◌, ◌++◌, length, take, drop, get_or, refl, sym, subst, ◌∙◌, inl, inr, arith}
-use Rattle.std.proofs.lemmas.Bool.{cases_lt}
-use Rattle.std.proofs.lemmas.List.{drop_more}
-use Rattle.std.proofs.Math.ListN.{drop_of_length-le}
+use Rattle.list_laws.proofs.Kit.{◌≡◌, ℕ, zero, suc, ◌+◌, ◌<◌, ◌≤◌, List, [], ◌∷◌, ◌++◌, length, take, drop, get_or, refl, sym, subst, ◌∙◌, inl, inr, arith}
+use Rattle.list_laws.proofs.Kit.{cases_lt, drop_more, drop_of_length-le}
 use Rattle.text_defs.specs.Languages.{Begins, IsFaultPlace, IsFaulty}
 
 -- Text begins nothing that goes on with the byte x.

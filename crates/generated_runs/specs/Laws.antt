@@ -4,8 +4,7 @@
 -- Source: this project's own.
 use Rattle.std.specs.Prelude.{◌≡◌, ◌↔◌, ℕ, true, List, ◌∷◌}
 use Rattle.text_defs.specs.declared.Format.TheVariants.{One}
-use Rattle.text_defs.specs.Answers.{IsAnswer}
-use Rattle.text_defs.specs.Lines.{HasRefused}
+use Rattle.text_defs.specs.Prelude.{IsAnswer, HasRefused}
 use Rattle.generated_runs.specs.Outcomes.{AreOutcomes, has_refused}
 use Rattle.generated_runs.specs.Told.{Becomes, IsAnsweredSo}
 use Rattle.generated_runs.specs.declared.draws.Kind.{Kind}

@@ -7,16 +7,9 @@
 -- The lines are those of an input of format 1.
 -- Source: this project's own.
 use Rattle.std.specs.Prelude.{◌≡◌, ℕ, ◌+◌, List, [], ◌∷◌, ◌++◌, length, Option, Some, None}
-use Rattle.tensor_defs.specs.Group.{InGroup}
-use Rattle.tensor_defs.specs.Orders.{index_before}
-use Rattle.tensor_defs.specs.Symbols.{GroupSymbol}
-use Rattle.tensor_defs.specs.Table.{Table, Fits}
-use Rattle.tensor_defs.specs.Voigt.{HasBlocks, VoigtTable, IsVoigtTable}
+use Rattle.tensor_defs.specs.Prelude.{InGroup, index_before, GroupSymbol, Table, Fits, HasBlocks, VoigtTable, IsVoigtTable}
 use Rattle.text_defs.specs.declared.Format.TheVariants.{One}
-use Rattle.text_defs.specs.AnswerTexts.{form_text, voigt_text}
-use Rattle.text_defs.specs.Answers.{AnswersRequest}
-use Rattle.text_defs.specs.Refusals.{RefusalWord, Refuses, IsRefused}
-use Rattle.text_defs.specs.Requests.{Request, JahnAt, SpellsRequest}
+use Rattle.text_defs.specs.Prelude.{form_text, voigt_text, AnswersRequest, RefusalWord, Refuses, IsRefused, Request, JahnAt, SpellsRequest}
 use Rattle.generated_runs.specs.declared.draws.Kind.{Kind}
 use Rattle.generated_runs.specs.declared.draws.Kind.TheVariants.{Form, Group, Voigt, States, Pairs, Differ, Same}
 use Rattle.generated_runs.specs.declared.counts.Refusal.{Refusal}

@@ -2,13 +2,9 @@
 --   alike_list      the list of one is that of the other
 --   alike_at        a list that is held serves for an operation that acts alike
 --   one_more, last_at    a list more, and its place
-use Rattle.std.proofs.Common.{◌≡◌, ℕ, ◌+◌, ◌<◌, List, [], ◌∷◌, ◌++◌, length, get_or, ap, sym, ◌∙◌, subst, arith}
-use Rattle.std.proofs.lemmas.List.{get_or_push, get_or_read, length_push}
+use Rattle.list_laws.proofs.Kit.{◌≡◌, ℕ, ◌+◌, ◌<◌, List, [], ◌∷◌, ◌++◌, length, get_or, ap, sym, ◌∙◌, subst, arith, get_or_push, get_or_read, length_push}
 use Rattle.list_laws.proofs.Members.{each_push, each_read}
-use Rattle.tensor_defs.specs.Number.{Root3, mul}
-use Rattle.tensor_defs.specs.Operation.{Operation}
-use Rattle.tensor_defs.specs.StateRows.{sum_of}
-use Rattle.tensor_defs.specs.Tensor.{Index, Tensor, Marks, act, index_of, indices}
+use Rattle.tensor_defs.specs.Prelude.{Root3, mul, Operation, sum_of, Index, Tensor, Marks, act, index_of, indices}
 use Rattle.tensor_laws.proofs.ComponentNumbers.{length-index_of}
 use Rattle.tensor_action.specs.Acting.{ActGrows, IsCarriedList, SumGrows, factor, tensor_of}
 use Rattle.tensor_action.proofs.CarryLaws.{sum_is_act}

@@ -3,14 +3,11 @@
 --   act_told        what the comparison with the carried list tells of an operation
 --   refutes, checked_grows, invariant_end    the verdict after the first elements, or after all
 --   refuted_not, refuted_calm, all_calm      no other verdict, and no refusal, is there
-use Rattle.std.proofs.Common.{◌≡◌, ℕ, ◌+◌, ◌-◌, ◌<◌, ◌≤◌, ◌^◌, List, length, get_or, ap, sym, ◌∙◌, arith, subst, inl, inr}
+use Rattle.list_laws.proofs.Kit.{◌≡◌, ℕ, ◌+◌, ◌-◌, ◌<◌, ◌≤◌, ◌^◌, List, length, get_or, ap, sym, ◌∙◌, arith, subst, inl, inr, cases_lt}
 use Rattle.std.specs.Prelude.{Contains, Option, Some, None, MatchOption}
-use Rattle.std.proofs.lemmas.Bool.{cases_lt}
 use Rattle.list_laws.proofs.Lists.{held_place}
-use Rattle.tensor_defs.specs.Jahn.{JahnSymbol, rank, HasSymmetry, IsInvariant}
-use Rattle.tensor_defs.specs.Number.{Number, Root3, num_one}
-use Rattle.tensor_defs.specs.Operation.{Operation, identity}
-use Rattle.tensor_defs.specs.Tensor.{Tensor, Marks, act, component_number, index_of, sign}
+use Rattle.tensor_defs.specs.Prelude.{JahnSymbol, rank, HasSymmetry, IsInvariant, Number, Root3, num_one, Operation, identity, Tensor, Marks, act}
+use Rattle.tensor_defs.specs.Prelude.{component_number, index_of, sign}
 use Rattle.tensor_defs.specs.declared.Sign.{Sign}
 use Rattle.tensor_laws.proofs.ComponentNumbers.{length-index_of}
 use Rattle.root3_num.specs.Roots.{value_of_root}

@@ -5,21 +5,12 @@
 --   kept_step       one more operation
 --   stabiliser_told, whole_calm, whole_grows    the elements of a whole group
 --   grown_not, grown_told    a group with one more element
-use Rattle.std.proofs.Common.{◌≡◌, ℕ, ◌+◌, ◌<◌, List, [], ◌∷◌, length, refl, ap, sym, ◌∙◌, arith, subst, inl, inr, ◌⊎◌}
+use Rattle.list_laws.proofs.Kit.{◌≡◌, ℕ, ◌+◌, ◌<◌, List, [], ◌∷◌, length, refl, ap, sym, ◌∙◌, arith, subst, inl, inr, ◌⊎◌, cases_lt}
 use Rattle.std.specs.Prelude.{Contains, Result, Ok, Err, IfOk, IfErr}
-use Rattle.std.proofs.lemmas.Bool.{cases_lt}
 use Rattle.list_laws.proofs.Lists.{held_place}
-use Rattle.tensor_defs.specs.Frames.{IsPlain, IsHexagonal}
-use Rattle.tensor_defs.specs.Group.{Generated, InGroup}
-use Rattle.tensor_defs.specs.Lists.{IsListing}
-use Rattle.tensor_defs.specs.Operation.{Operation, IsProduct, identity}
-use Rattle.tensor_defs.specs.OperationOrder.{comes_before}
-use Rattle.tensor_defs.specs.States.{InTwinningGroup}
-use Rattle.tensor_defs.specs.Tensor.{Tensor, Marks, act, index_of}
-use Rattle.tensor_laws.proofs.ActionLaws.{acts_in_turn, identity_acts_lem}
-use Rattle.tensor_laws.proofs.Agreeing.{act-agree}
-use Rattle.tensor_laws.proofs.ComponentNumbers.{length-index_of}
-use Rattle.tensor_laws.proofs.Products.{generated_within}
+use Rattle.tensor_defs.specs.Prelude.{IsPlain, IsHexagonal, Generated, InGroup, IsListing, Operation, IsProduct, identity, comes_before, InTwinningGroup}
+use Rattle.tensor_defs.specs.Prelude.{Tensor, Marks, act, index_of}
+use Rattle.tensor_laws.proofs.Prelude.{acts_in_turn, identity_acts_lem, act-agree, length-index_of, generated_within}
 use Rattle.op_matrix.proofs.Listed.{OneTimes, plain_one, hex_one}
 use Rattle.magnetic_groups.specs.Sets.{In, IsGroup, FitsFrame}
 use Rattle.tensor_action.specs.Acting.{ActGrows}

@@ -2,14 +2,11 @@
 --   grows_marks     growth under one list of marks is growth under another
 --   factor_marks    the factors under the two are the same but for a sign
 --   act_marks       so are the components of the carried tensor
-use Rattle.std.proofs.Common.{◌≡◌, ℕ, ◌⊎◌, inl, inr, List, [], ◌∷◌, length, refl, ap, sym, ◌∙◌, subst, take}
+use Rattle.list_laws.proofs.Kit.{◌≡◌, ℕ, ◌⊎◌, inl, inr, List, [], ◌∷◌, length, refl, ap, sym, ◌∙◌, subst, take, IsGcd}
 use lib.IntN.{pos, negsuc, neg_ℤ}
 use Rattle.std.specs.Prelude.{◌≤◌}
-use Rattle.std.specs.Int.{IsGcd}
-use Rattle.tensor_defs.specs.Number.{Fraction, HasParts, IsFraction, Number, PartReaches, ProductReaches, ReachesLimit, add, limit, mul, neg, num_one, root_3, whole}
-use Rattle.tensor_defs.specs.Operation.{Operation}
-use Rattle.tensor_defs.specs.StateRows.{sum_of}
-use Rattle.tensor_defs.specs.Tensor.{Index, Marks, Tensor, act, coefficient, indices, sign}
+use Rattle.tensor_defs.specs.Prelude.{Fraction, HasParts, IsFraction, Number, PartReaches, ProductReaches, ReachesLimit, add, limit, mul, neg, num_one}
+use Rattle.tensor_defs.specs.Prelude.{root_3, whole, Operation, sum_of, Index, Marks, Tensor, act, coefficient, indices, sign}
 use Rattle.tensor_defs.specs.declared.Sign.{Sign}
 use Rattle.tensor_defs.specs.declared.Sign.TheVariants.{Plus, Minus}
 use Rattle.number_laws.proofs.NumberLaws.{num_mul-add, num_mul_assoc, num_mul_left_comm, num_neg-neg}

@@ -7,16 +7,12 @@ use Rattle.std.specs.Prelude.{Contains, Option, Some, None, cond, IsTrue}
 use Rattle.list_laws.proofs.Members.{each_from, each_held}
 use Rattle.tensor_defs.specs.declared.Sign.{Sign}
 use Rattle.tensor_defs.specs.declared.Sign.TheVariants.{Plus, Minus}
-use Rattle.tensor_defs.specs.Jahn.{JahnSymbol, rank, Bracket, body_brackets, IsExchange, Respects, HasSymmetry}
-use Rattle.tensor_defs.specs.Number.{Number, neg, num_zero}
-use Rattle.tensor_defs.specs.Orders.{index_before}
-use Rattle.tensor_defs.specs.Tensor.{Index, Tensor, component_number, index_of}
-use Rattle.tensor_laws.proofs.IndexOrder.{index_order}
-use Rattle.tensor_laws.proofs.Indices.{index_cases}
+use Rattle.tensor_defs.specs.Prelude.{JahnSymbol, rank, Bracket, body_brackets, IsExchange, Respects, HasSymmetry, Number, neg, num_zero, index_before, Index}
+use Rattle.tensor_defs.specs.Prelude.{Tensor, component_number, index_of}
+use Rattle.tensor_laws.proofs.Prelude.{index_order, index_cases}
 use Rattle.sign_moves.specs.Signs.{signed, times}
 use Rattle.sign_moves.proofs.SignLaws.{signed-signed, signed_zero, opposite}
-use Rattle.tensor_rank.specs.Carried.{Carried, rests, steps, Exchanges, IsZeroAt, IsFirstCarried}
-use Rattle.tensor_rank.specs.IndexLaws.{index_number_at, component_below_at}
+use Rattle.tensor_rank.specs.Prelude.{Carried, rests, steps, Exchanges, IsZeroAt, IsFirstCarried, index_number_at, component_below_at}
 use Rattle.tensor_rank.proofs.ExchangeIndex.{length_exchanged}
 use Rattle.tensor_rank.proofs.ShapeLaws.{carried_join, carried_reaches}
 use Rattle.given_tensors.specs.Verdicts.{Tells, Keeps, Follows}

@@ -5,10 +5,7 @@
 --   Serves          whatever the tensor is
 -- Source: International Tables D 1.1.
 use Rattle.std.specs.Prelude.{◌≡◌, ℕ, ◌<◌, ◌%◌, List, false, length, get_or, nat_eq}
-use Rattle.tensor_defs.specs.Lists.{Each}
-use Rattle.tensor_defs.specs.Number.{Root3}
-use Rattle.tensor_defs.specs.Operation.{Operation}
-use Rattle.tensor_defs.specs.Tensor.{Marks}
+use Rattle.tensor_defs.specs.Prelude.{Each, Root3, Operation, Marks}
 use Rattle.tensor_action.specs.Acting.{IsCarriedList}
 use Rattle.given_tensors.specs.declared.carried.Carried.{Carried}
 

@@ -4,9 +4,7 @@
 --   IsStep          the group after one more operation
 --   SomeGrows       the action of some element of a list grows
 use Rattle.std.specs.Prelude.{◌≡◌, ◌⊎◌, ℕ, List, Contains}
-use Rattle.tensor_defs.specs.Group.{Generated}
-use Rattle.tensor_defs.specs.Operation.{Operation}
-use Rattle.tensor_defs.specs.Tensor.{Tensor, Marks}
+use Rattle.tensor_defs.specs.Prelude.{Generated, Operation, Tensor, Marks}
 use Rattle.tensor_action.specs.Acting.{ActGrows}
 use Rattle.given_tensors.specs.Verdicts.{IsLeftSame}
 

@@ -3,9 +3,7 @@
 --   StabiliserGrows the action of some element of the whole group grows
 -- Source: the definition of a stabiliser; International Tables D 1.1 for the action.
 use Rattle.std.specs.Prelude.{ℕ}
-use Rattle.tensor_defs.specs.Group.{InGroup}
-use Rattle.tensor_defs.specs.Operation.{Operation}
-use Rattle.tensor_defs.specs.Tensor.{Tensor, Marks}
+use Rattle.tensor_defs.specs.Prelude.{InGroup, Operation, Tensor, Marks}
 use Rattle.tensor_action.specs.Acting.{ActGrows}
 use Rattle.given_tensors.specs.Verdicts.{IsLeftSame}
 use Rattle.given_tensors.specs.Wholes.{whole_symbol}

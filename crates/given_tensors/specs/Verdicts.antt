@@ -10,11 +10,7 @@
 -- Source: International Tables D 1.1 for invariance; what is looked at first is this project's own.
 use Rattle.std.specs.Prelude.{◌≡◌, ◌≢◌, ℕ, ◌-◌, ◌<◌, ◌≤◌, List, length, slice_index_or, Option, Some, None}
 use Rattle.tensor_defs.specs.declared.Sign.{Sign}
-use Rattle.tensor_defs.specs.Jahn.{JahnSymbol, HasSymmetry, IsInvariant}
-use Rattle.tensor_defs.specs.Number.{num_zero}
-use Rattle.tensor_defs.specs.Operation.{Operation, identity}
-use Rattle.tensor_defs.specs.Orders.{index_before}
-use Rattle.tensor_defs.specs.Tensor.{Tensor, Marks, Agree, act, index_of}
+use Rattle.tensor_defs.specs.Prelude.{JahnSymbol, HasSymmetry, IsInvariant, num_zero, Operation, identity, index_before, Tensor, Marks, Agree, act, index_of}
 use Rattle.sign_moves.specs.Signs.{signed}
 use Rattle.tensor_rank.specs.Carried.{Exchanges, TellsClass}
 use Rattle.magnetic_groups.specs.Sets.{In}

@@ -7,18 +7,15 @@
 --   told_at, primed_piece, below_count, past_count, at_number    the pieces of the look-up
 --   plain_named, grey_named, primed_named    the symbols of a parent and a setting
 --   row_is, all_oriented, all_named, parent_there    all oriented parents
-use Rattle.std.proofs.Common.{◌≡◌, ℕ, zero, suc, ◌+◌, ◌-◌, ◌^◌, ◌<◌, ◌≤◌, Bool, true, false, cond, List, [], ◌∷◌, ◌++◌, length, refl, ap, sym, ◌∙◌, arith, subst, take, append_assoc, add-one, ◌⊎◌, inl, inr}
+use Rattle.list_laws.proofs.Kit.{◌≡◌, ℕ, zero, suc, ◌+◌, ◌-◌, ◌^◌, ◌<◌, ◌≤◌, Bool, true, false, cond, List, [], ◌∷◌, ◌++◌, length, refl, ap, sym, ◌∙◌, arith}
+use Rattle.list_laws.proofs.Kit.{subst, take, add-one, ◌⊎◌, inl, inr, flat_map, length_push, get_or_append_left, get_or_push, get_or_default, flat_map_single}
+use Rattle.list_laws.proofs.Kit.{cases_lt}
+use Rattle.std.proofs.Common.{append_assoc}
 use Rattle.std.specs.Prelude.{Option, Some, None, slice_index_or, map, filter, SomeIff}
-use Rattle.std.specs.List.{flat_map}
-use Rattle.std.proofs.lemmas.List.{length_push, get_or_append_left, get_or_push, get_or_default}
-use Rattle.std.proofs.lemmas.List.Concat.{flat_map_single}
-use Rattle.std.proofs.lemmas.Bool.{cases_lt}
 use Rattle.tensor_defs.specs.declared.Setting.{Setting}
 use Rattle.group_symbol.specs.Readings.{symbol_of}
-use Rattle.tensor_defs.specs.Lists.{Each, up_to}
-use Rattle.tensor_defs.specs.Operation.{Operation}
-use Rattle.tensor_defs.specs.Symbols.{GroupSymbol, operator_count, parent_operators}
-use Rattle.tensor_defs.specs.Names.{IsNamed, IsNameOf, symbols, symbols_with, turned_bits}
+use Rattle.tensor_defs.specs.Prelude.{Each, up_to, Operation, GroupSymbol, operator_count, parent_operators, IsNamed, IsNameOf, symbols, symbols_with}
+use Rattle.tensor_defs.specs.Prelude.{turned_bits}
 use Rattle.group_names.specs.declared.oriented.Oriented.{Oriented}
 use Rattle.group_names.specs.declared.oriented.TheConstants.{ORIENTED}
 use Rattle.group_names.proofs.Matrices.{row_at}

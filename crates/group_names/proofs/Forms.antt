@@ -10,8 +10,7 @@ use Rattle.tensor_defs.specs.declared.OpKind.TheVariants.{Two, Three, Four, Six,
 use Rattle.tensor_defs.specs.declared.Direction.{Direction}
 use Rattle.tensor_defs.specs.declared.Direction.TheVariants.{X, Y, Z, XY, XmY, XYZ}
 use Rattle.tensor_defs.specs.declared.Setting.{Setting}
-use Rattle.tensor_defs.specs.Operation.{Operation}
-use Rattle.tensor_defs.specs.Symbols.{operation_of, Operator, GroupSymbol, parent_operators, turned_to, listed, operations_of, generators}
+use Rattle.tensor_defs.specs.Prelude.{Operation, operation_of, Operator, GroupSymbol, parent_operators, turned_to, listed, operations_of, generators}
 use Rattle.op_matrix.specs.Table.{marked}
 
 abbrev with_mark : Bool → Option Operation → Option Operation

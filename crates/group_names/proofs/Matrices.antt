@@ -5,27 +5,17 @@
 --   any_mark      with time reversal alone a group holds both forms
 --   same_matrices    all of them are matrices of the symbol's group
 --   rows_fit, row_fits    the list of oriented parents, by computing
-use Rattle.std.proofs.Common.{[], ◌≡◌, ℕ, zero, suc, ◌+◌, ◌*◌, ◌^◌, ◌<◌, ◌≤◌, Bool, true, false, cond, List, ◌∷◌, ◌++◌, refl, ap, sym, ◌∙◌, arith, subst, lit<, inl, inr}
+use Rattle.list_laws.proofs.Kit.{[], ◌≡◌, ℕ, zero, suc, ◌+◌, ◌*◌, ◌^◌, ◌<◌, ◌≤◌, Bool, true, false, cond, List, ◌∷◌, ◌++◌, refl, ap, sym, ◌∙◌, arith, subst}
+use Rattle.list_laws.proofs.Kit.{lit<, inl, inr, nat_tests, Contains-append_cases, eqb-true, false≢true}
 use Rattle.std.specs.Prelude.{Contains, IsTrue, ◌↔◌, nat_eq, nat_le, get_or, map}
-use Rattle.std.proofs.lemmas.Bool.Decides.{nat_tests}
-use Rattle.std.proofs.lemmas.List.Elements.{Contains-append_cases}
-use Rattle.std.proofs.lemmas.Bool.{eqb-true, false≢true}
-use Rattle.list_laws.proofs.Members.{each_from, each_push}
-use Rattle.list_laws.proofs.Below.{all_below, below_told}
-use Rattle.list_laws.proofs.Tests.{implied, both}
+use Rattle.list_laws.proofs.Prelude.{each_from, each_push, all_below, below_told, implied, both}
 use mathlib.Core.Bool.{xor}
 use Rattle.tensor_defs.specs.declared.Setting.{Setting}
 use Rattle.tensor_defs.specs.declared.Setting.TheVariants.{Default, X, Z, XY, D, P}
-use Rattle.tensor_defs.specs.Lists.{Each}
-use Rattle.tensor_defs.specs.Operation.{Operation, IsProduct, identity, reversal}
-use Rattle.tensor_defs.specs.Frames.{HaveCommonFrame}
-use Rattle.tensor_defs.specs.Symbols.{GroupSymbol, IsGroupSymbol, parent_operators, operations_of, takes_setting, generators}
-use Rattle.tensor_defs.specs.Group.{InGroup}
-use Rattle.tensor_laws.proofs.Products.{generated_within, product_unique}
-use Rattle.tensor_laws.proofs.Associativity.{product_assoc}
-use Rattle.op_matrix.specs.Laws.{HasFrame}
-use Rattle.op_matrix.specs.Places.{place_at}
-use Rattle.op_matrix.specs.Table.{marked, operation_at, matrix_place}
+use Rattle.tensor_defs.specs.Prelude.{Each, Operation, IsProduct, identity, reversal, HaveCommonFrame, GroupSymbol, IsGroupSymbol, parent_operators}
+use Rattle.tensor_defs.specs.Prelude.{operations_of, takes_setting, generators, InGroup}
+use Rattle.tensor_laws.proofs.Prelude.{generated_within, product_unique, product_assoc}
+use Rattle.op_matrix.specs.Prelude.{HasFrame, place_at, marked, operation_at, matrix_place}
 use Rattle.op_matrix.specs.declared.entry.Frame.{Frame}
 use Rattle.op_matrix.specs.declared.entry.Frame.TheVariants.{Plain, Hexagonal, Both}
 use Rattle.op_matrix.proofs.Frames.{also}

@@ -1,14 +1,11 @@
 -- What a test of one symbol tells.
-use Rattle.std.proofs.Common.{◌≡◌, ℕ, ◌+◌, ◌*◌, ◌<◌, ◌≤◌, Bool, true, false, List, [], ◌∷◌, length, refl, ap, sym, ◌∙◌, arith, subst, inl, inr}
+use Rattle.list_laws.proofs.Kit.{◌≡◌, ℕ, ◌+◌, ◌*◌, ◌<◌, ◌≤◌, Bool, true, false, List, [], ◌∷◌, length, refl, ap, sym, ◌∙◌, arith, subst, inl, inr, false≢true}
+use Rattle.list_laws.proofs.Kit.{Contains-append_right}
 use Rattle.std.specs.Prelude.{Contains, ◌↔◌, IsTrue, slice_index_or, Some, None}
 use mathlib.Core.Bool.{beq, not}
-use Rattle.std.proofs.lemmas.Bool.{false≢true}
-use Rattle.std.proofs.lemmas.List.Elements.{Contains-append_right}
 use Rattle.list_laws.proofs.Tests.{same_truth}
-use Rattle.tensor_defs.specs.Operation.{Operation, reversal}
-use Rattle.tensor_defs.specs.Symbols.{GroupSymbol, IsGroupSymbol, generators, operations_of, parent_operators}
-use Rattle.tensor_defs.specs.Group.{InGroup, IsAccepted, IsBelow}
-use Rattle.tensor_defs.specs.Names.{IsNamed}
+use Rattle.tensor_defs.specs.Prelude.{Operation, reversal, GroupSymbol, IsGroupSymbol, generators, operations_of, parent_operators, InGroup, IsAccepted}
+use Rattle.tensor_defs.specs.Prelude.{IsBelow, IsNamed}
 use Rattle.tensor_laws.proofs.Products.{generated_within}
 use Rattle.op_matrix.specs.Table.{nth_operation, operation_at}
 use Rattle.op_matrix.proofs.Facts.{nth_at}

@@ -1,6 +1,5 @@
 -- Patterns of primes: numbers with their binary digits in the other order.
-use Rattle.std.proofs.Common.{◌≡◌, ℕ, suc, ◌+◌, ◌*◌, ◌%◌, ◌/◌, ◌^◌, ◌<◌, ◌≤◌, ap, sym, ◌∙◌, arith, subst, add-one}
-use Rattle.std.proofs.Math.Nat.{pow-succ', add-mul, mul_assoc, mul_comm}
+use Rattle.list_laws.proofs.Kit.{◌≡◌, ℕ, suc, ◌+◌, ◌*◌, ◌%◌, ◌/◌, ◌^◌, ◌<◌, ◌≤◌, ap, sym, ◌∙◌, arith, subst, add-one, pow-succ', add-mul, mul_assoc, mul_comm}
 use Rattle.tensor_defs.specs.Names.{turned_bits}
 use Rattle.list_laws.proofs.Tests.{power_four}
 

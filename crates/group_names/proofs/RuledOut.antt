@@ -1,14 +1,9 @@
 -- The symbols of a parent in a setting that are ruled out together, and those of a row of the oriented parents.
-use Rattle.std.proofs.Common.{◌≡◌, ℕ, zero, suc, ◌+◌, ◌-◌, ◌*◌, ◌/◌, ◌%◌, ◌^◌, ◌<◌, ◌≤◌, Bool, true, false, List, [], ◌∷◌, refl, sym, subst, ◌∙◌, arith}
+use Rattle.list_laws.proofs.Kit.{◌≡◌, ℕ, zero, suc, ◌+◌, ◌-◌, ◌*◌, ◌/◌, ◌%◌, ◌^◌, ◌<◌, ◌≤◌, Bool, true, false, List, [], ◌∷◌, refl, sym, subst, ◌∙◌, arith}
+use Rattle.list_laws.proofs.Kit.{pow-succ', pow_pos, false≢true}
 use Rattle.std.specs.Prelude.{None, map, ◌↔◌}
-use Rattle.std.proofs.Math.Nat.{pow-succ'}
-use Rattle.std.proofs.lemmas.Nat.{pow_pos}
-use Rattle.std.proofs.lemmas.Bool.{false≢true}
 use Rattle.tensor_defs.specs.declared.Setting.{Setting}
-use Rattle.tensor_defs.specs.Lists.{Each, up_to}
-use Rattle.tensor_defs.specs.Operation.{Operation}
-use Rattle.tensor_defs.specs.Symbols.{GroupSymbol, IsGroupSymbol, operator_count, takes_setting}
-use Rattle.tensor_defs.specs.Names.{IsNamed, symbols_with, turned_bits}
+use Rattle.tensor_defs.specs.Prelude.{Each, up_to, Operation, GroupSymbol, IsGroupSymbol, operator_count, takes_setting, IsNamed, symbols_with, turned_bits}
 use Rattle.op_matrix.specs.Table.{operation_at}
 use Rattle.magnetic_groups.specs.Sets.{HasForm, In}
 use Rattle.group_names.specs.LookUps.{HaveForms, IsFirstNamed, IsNumberOf, oriented, row_of}

@@ -13,11 +13,7 @@ use Rattle.std.specs.Int.{bit_at}
 use Rattle.std.specs.List.{slice_index_or}
 use Rattle.tensor_defs.specs.declared.Setting.{Setting}
 use Rattle.tensor_defs.specs.declared.Setting.TheVariants.{Default}
-use Rattle.tensor_defs.specs.Lists.{Each}
-use Rattle.tensor_defs.specs.Operation.{Operation}
-use Rattle.tensor_defs.specs.Symbols.{GroupSymbol, IsGroupSymbol, operator_count}
-use Rattle.tensor_defs.specs.Group.{InGroup}
-use Rattle.tensor_defs.specs.Names.{IsNamed, symbols_with, turned_bits}
+use Rattle.tensor_defs.specs.Prelude.{Each, Operation, GroupSymbol, IsGroupSymbol, operator_count, InGroup, IsNamed, symbols_with, turned_bits}
 use Rattle.magnetic_groups.specs.Sets.{HasForm}
 use Rattle.group_names.specs.declared.oriented.Oriented.{Oriented}
 use Rattle.group_names.specs.declared.oriented.TheConstants.{ORIENTED}

@@ -1,12 +1,10 @@
 -- The texts of the parents' symbols, and 1', as alternatives.
-use Rattle.std.proofs.Common.{◌≡◌, ◌≢◌, ◌⊎◌, ℕ, ◌+◌, ◌<◌, ◌≤◌, List, length, get_or, take, max, refl, arith, inl, inr}
-use Rattle.std.proofs.lemmas.Bool.{cases_lt}
+use Rattle.list_laws.proofs.Kit.{◌≡◌, ◌≢◌, ◌⊎◌, ℕ, ◌+◌, ◌<◌, ◌≤◌, List, length, get_or, take, max, refl, arith, inl, inr, cases_lt}
 use Rattle.std.specs.Prelude.{codes}
-use Rattle.text_defs.specs.Languages.{IsFaulty}
+use Rattle.text_defs.specs.Prelude.{IsFaulty, SpellsGroup, IsGroupText, grey_one}
 use Rattle.fault_places.proofs.Places.{same_faulty}
 use Rattle.fault_places.proofs.Furthest.{Furthest, Furthest-stay, Furthest-go, Furthest-all, single_faulty, Furthest-start}
 use Rattle.tensor_defs.specs.Symbols.{GroupSymbol}
-use Rattle.text_defs.specs.GroupTexts.{SpellsGroup, IsGroupText, grey_one}
 use Rattle.group_symbol.specs.Parts.{IsFullTextOf}
 
 abbrev pub Alternative : ℕ → List ℕ → Type 0

@@ -1,9 +1,8 @@
 -- What stands behind the signs: the grey suffix and the suffix of a setting.
 --   not_grey    where the word doesn't begin as grey
 use Rattle.std.proofs.Common.{◌≡◌, ◌≢◌, ℕ, suc, ◌+◌, ◌<◌, ◌≤◌, Bool, true, false, List, [], ◌∷◌, length, get_or, refl, ap, subst, ◌∙◌, arith}
-use Rattle.text_defs.specs.Languages.{IsFaulty}
+use Rattle.text_defs.specs.Prelude.{IsFaulty, IsSuffix}
 use Rattle.fault_places.proofs.Places.{StopsAt, same_stop, same_stop_near, stops, faulty, Through}
-use Rattle.text_defs.specs.GroupTexts.{IsSuffix}
 use Rattle.tensor_defs.specs.declared.Setting.{Setting}
 use Rattle.text_laws.proofs.GroupUnique.{suffix_first}
 use Rattle.group_symbol.specs.Parts.{IsSuffixText, IsEnding, IsEndingText}

@@ -3,19 +3,15 @@
 --   EndingOf, EndingOf-open, symbol_is, full_text    the endings that a parent's primes allow
 --   body_full, full_body    a body and its ending are a full text
 --   signs_wrong    what the walk over a parent's signs tells of a word
-use Rattle.std.proofs.Common.{◌≡◌, ◌≤◌, ◌<◌, ◌^◌, ◌-◌, ◌+◌, ℕ, zero, suc, Bool, true, false, cond, eqb, List, [], ◌∷◌}
-use Rattle.std.proofs.Common.{◌++◌, get_or, length, drop, Result, Ok, Err, refl, sym, ap, subst, ◌∙◌, arith, nat_le}
-use Rattle.std.proofs.Common.{IsTrue, inl, inr, eq-eqb}
+use Rattle.list_laws.proofs.Kit.{◌≡◌, ◌≤◌, ◌<◌, ◌^◌, ◌-◌, ◌+◌, ℕ, zero, suc, Bool, true, false, cond, eqb, List, [], ◌∷◌, ◌++◌, get_or, length, drop, Result}
+use Rattle.list_laws.proofs.Kit.{Ok, Err, refl, sym, ap, subst, ◌∙◌, arith, nat_le, IsTrue, inl, inr, list_all, eqb_tells, leb-true, eqb-true}
+use Rattle.std.proofs.Common.{eq-eqb}
 use Rattle.std.specs.Prelude.{◌&&◌}
-use Rattle.std.specs.List.{list_all}
-use Rattle.std.proofs.lemmas.Bool.Decides.{eqb_tells}
-use Rattle.std.proofs.lemmas.Bool.{leb-true, eqb-true}
 use Rattle.list_laws.proofs.Tests.{both}
-use Rattle.text_defs.specs.Languages.{IsFaulty}
+use Rattle.text_defs.specs.Prelude.{IsFaulty, operators_in, with_primes, suffix_at, IsSuffix, IsFullText, grey_text}
 use Rattle.fault_places.proofs.Places.{Through, Through-faulty, faulty, same_faulty}
 use Rattle.tensor_defs.specs.declared.Setting.{Setting}
 use Rattle.tensor_defs.specs.Symbols.{parent_texts, parent_text, operator_count, takes_setting, IsGroupSymbol}
-use Rattle.text_defs.specs.GroupTexts.{operators_in, with_primes, suffix_at, IsSuffix, IsFullText, grey_text}
 use Rattle.group_symbol.specs.Parts.{IsEnding, IsEndingText, IsFullTextOf}
 use Rattle.group_symbol.specs.Walks.{walk}
 use Rattle.text_laws.proofs.GroupUnique.{same_count, in_text, suffix_first}

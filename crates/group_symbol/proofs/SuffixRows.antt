@@ -1,11 +1,9 @@
 -- The suffixes as alternatives, row by row.
-use Rattle.std.proofs.Common.{◌≡◌, ◌≢◌, ℕ, ◌+◌, ◌<◌, ◌≤◌, true, false, IsTrue, List, [], length, get_or, take, max, refl, sym, ◌∙◌, arith, lit<}
-use Rattle.std.proofs.Common.{inl, inr}
-use Rattle.std.proofs.lemmas.Bool.{cases_lt}
-use Rattle.text_defs.specs.Languages.{IsFaulty}
+use Rattle.list_laws.proofs.Kit.{◌≡◌, ◌≢◌, ℕ, ◌+◌, ◌<◌, ◌≤◌, true, false, IsTrue, List, [], length, get_or, take, max, refl, sym, ◌∙◌, arith, lit<, inl, inr}
+use Rattle.list_laws.proofs.Kit.{cases_lt}
+use Rattle.text_defs.specs.Prelude.{IsFaulty, suffix_at, no_suffix}
 use Rattle.fault_places.proofs.Places.{same_faulty}
 use Rattle.fault_places.proofs.Furthest.{Furthest, Furthest-skip, Furthest-stay, Furthest-go, Furthest-all, single_faulty}
-use Rattle.text_defs.specs.GroupTexts.{suffix_at, no_suffix}
 use Rattle.group_symbol.specs.Parts.{IsSuffixText}
 
 abbrev pub Row : ℕ → ℕ → List ℕ → Type 0

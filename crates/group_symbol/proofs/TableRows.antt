@@ -1,7 +1,6 @@
 -- The tables of parents and of suffixes, read at a place.
-use Rattle.std.proofs.Common.{◌≡◌, ℕ, zero, suc, ◌<◌, List, [], ◌∷◌, length, get_or, refl, arith}
+use Rattle.list_laws.proofs.Kit.{◌≡◌, ℕ, zero, suc, ◌<◌, List, [], ◌∷◌, length, get_or, refl, arith, Bor}
 use Rattle.std.specs.Prelude.{map}
-use Rattle.std.specs.Borrow.{Bor}
 use Rattle.tensor_defs.specs.declared.OpKind.{OpKind}
 use Rattle.tensor_defs.specs.declared.Direction.{Direction}
 use Rattle.text_defs.specs.GroupTexts.{no_suffix}

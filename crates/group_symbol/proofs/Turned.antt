@@ -1,11 +1,9 @@
 -- The operations of operators, one after another.
-use Rattle.std.proofs.Common.{◌≡◌, ◌≤◌, ℕ, List, ◌++◌}
-use Rattle.std.proofs.Common.{length, drop}
+use Rattle.list_laws.proofs.Kit.{◌≡◌, ◌≤◌, ℕ, List, ◌++◌, length, drop}
 use Rattle.tensor_defs.specs.declared.Setting.{Setting}
 use Rattle.tensor_defs.specs.declared.OpKind.{OpKind}
 use Rattle.tensor_defs.specs.declared.Direction.{Direction}
-use Rattle.tensor_defs.specs.Operation.{Operation}
-use Rattle.tensor_defs.specs.Symbols.{operations_of}
+use Rattle.tensor_defs.specs.Prelude.{Operation, operations_of}
 use Rattle.group_symbol.specs.Tables.{operators_of}
 
 -- the operations of the first i operators are found, and the others are still to come

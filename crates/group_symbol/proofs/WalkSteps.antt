@@ -1,11 +1,8 @@
 -- A walk over the signs of a parent, sign by sign.
 --   Stands    where the loop over the signs stands
-use Rattle.std.proofs.Common.{◌≡◌, ◌≢◌, ℕ, suc, ◌+◌, ◌*◌, ◌<◌, ◌≤◌, ◌^◌, Bool, true, false, cond, List, [], ◌∷◌, length}
-use Rattle.std.proofs.Common.{get_or, drop, Result, Ok, Err, refl, sym, ap, ◌∙◌, arith, eq-eqb, inl, inr}
-use Rattle.std.proofs.lemmas.List.{drop_more}
-use Rattle.std.proofs.lemmas.Bool.{ne_eqb, cases_lt}
-use Rattle.std.proofs.Math.ListN.{drop_of_length-le}
-use Rattle.std.proofs.Math.Nat.{pow-suc}
+use Rattle.list_laws.proofs.Kit.{◌≡◌, ◌≢◌, ℕ, suc, ◌+◌, ◌*◌, ◌<◌, ◌≤◌, ◌^◌, Bool, true, false, cond, List, [], ◌∷◌, length, get_or, drop, Result, Ok, Err}
+use Rattle.list_laws.proofs.Kit.{refl, sym, ap, ◌∙◌, arith, inl, inr, drop_more, ne_eqb, cases_lt, drop_of_length-le, pow-suc}
+use Rattle.std.proofs.Common.{eq-eqb}
 use Rattle.text_defs.specs.GroupTexts.{ends_operator, operators_in}
 use Rattle.list_laws.proofs.Tests.{power_four}
 use Rattle.group_symbol.specs.Walks.{lift, after_sign, walk}

@@ -1,9 +1,7 @@
 -- Writing signs with their primes, sign by sign.
-use Rattle.std.proofs.Common.{◌≡◌, ◌≢◌, ◌==◌, ◌%◌, ◌/◌, ◌+◌, ◌*◌, ◌<◌, ◌≤◌, ℕ, Bool, true, false, cond, List, [], ◌∷◌, ◌++◌}
-use Rattle.std.proofs.Common.{get_or, length, drop, refl, sym, ap, ◌∙◌, arith, append_assoc, append-nil, eq-eqb, length-append}
-use Rattle.std.proofs.lemmas.Bool.{ne_eqb}
-use Rattle.std.proofs.lemmas.List.{drop_more}
-use Rattle.std.proofs.Math.ListN.{drop_of_length-le}
+use Rattle.list_laws.proofs.Kit.{◌≡◌, ◌≢◌, ◌==◌, ◌%◌, ◌/◌, ◌+◌, ◌*◌, ◌<◌, ◌≤◌, ℕ, Bool, true, false, cond, List, [], ◌∷◌, ◌++◌, get_or, length, drop, refl}
+use Rattle.list_laws.proofs.Kit.{sym, ap, ◌∙◌, arith, ne_eqb, drop_more, drop_of_length-le}
+use Rattle.std.proofs.Common.{append_assoc, append-nil, eq-eqb, length-append}
 use Rattle.text_defs.specs.GroupTexts.{ends_operator, with_primes}
 
 -- what is written by the first i signs, and what is still to come

@@ -7,8 +7,7 @@
 use Rattle.std.specs.Prelude.{◌≡◌, ℕ, Bool, true, List, ◌++◌, Result, Ok, Err}
 use Rattle.tensor_defs.specs.Symbols.{GroupSymbol}
 use Rattle.tensor_defs.specs.declared.Setting.{Setting}
-use Rattle.text_defs.specs.GroupTexts.{IsSuffix, IsFullText, grey_text}
-use Rattle.text_defs.specs.Languages.{IsFaulty}
+use Rattle.text_defs.specs.Prelude.{IsSuffix, IsFullText, grey_text, IsFaulty}
 use Rattle.text_defs.specs.declared.Fault.{Fault}
 
 abbrev pub IsSuffixText : ℕ → List ℕ → Type 0

@@ -5,8 +5,7 @@
 use Rattle.std.specs.Prelude.{ℕ, Bool, List, Result, Ok, Err}
 use Rattle.tensor_defs.specs.Symbols.{GroupSymbol}
 use Rattle.tensor_defs.specs.declared.Setting.{Setting}
-use Rattle.text_defs.specs.GroupTexts.{SpellsGroup, IsGroupText}
-use Rattle.text_defs.specs.Languages.{IsFaulty}
+use Rattle.text_defs.specs.Prelude.{SpellsGroup, IsGroupText, IsFaulty}
 use Rattle.text_defs.specs.declared.Fault.{Fault}
 
 abbrev pub symbol_of : ℕ → ℕ → Bool → Setting → GroupSymbol

@@ -1,11 +1,8 @@
 -- The atom at the front of a word that has one, read from the inside out.
 --   Entered         the opening signs so far, and an atom behind them
 --   Grown           the atom within the first opening signs
-use Rattle.std.proofs.Common.{◌≡◌, ◌≢◌, ℕ, suc, ◌+◌, ◌-◌, ◌<◌, ◌≤◌, List, ◌∷◌, ◌++◌, length, get_or, drop}
-use Rattle.std.proofs.Common.{refl, sym, ap, subst, ◌∙◌, arith, inl, inr}
-use Rattle.std.proofs.lemmas.List.{drop_more}
-use Rattle.std.proofs.lemmas.Bool.{cases_lt}
-use Rattle.std.proofs.Math.ListN.{drop_of_length-le}
+use Rattle.list_laws.proofs.Kit.{◌≡◌, ◌≢◌, ℕ, suc, ◌+◌, ◌-◌, ◌<◌, ◌≤◌, List, ◌∷◌, ◌++◌, length, get_or, drop, refl, sym, ap, subst, ◌∙◌, arith, inl, inr}
+use Rattle.list_laws.proofs.Kit.{drop_more, cases_lt, drop_of_length-le}
 use Rattle.tensor_defs.specs.Jahn.{BracketKind, Symmetric, Antisymmetric, Atom, V, Bracketed, IsAtom}
 use Rattle.text_defs.specs.JahnTexts.{opening, closing, atom_text}
 use Rattle.jahn_grammar.specs.Views.{IsOpening, IsDigit, closer}

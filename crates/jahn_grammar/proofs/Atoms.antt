@@ -3,14 +3,12 @@
 --   kind_of, open_in, bracket_text, core_in, no_end    one sign, one bracket, the V within, the end
 --   Opened, Closed  the loops over the opening signs and over the brackets behind the V
 --   capped          ranks up to 7
-use Rattle.std.proofs.Common.{◌≡◌, ◌≢◌, ℕ, zero, suc, ◌+◌, ◌*◌, ◌-◌, ◌<◌, ◌≤◌, List, [], ◌∷◌, ◌++◌, length, get_or}
-use Rattle.std.proofs.Common.{drop, min, refl, sym, ap, subst, ◌∙◌, arith, inl, inr, append_assoc, lit≤}
-use Rattle.std.proofs.lemmas.List.{drop_more}
-use Rattle.std.proofs.lemmas.Bool.{cases_lt}
-use Rattle.text_defs.specs.Languages.{IsFaulty}
+use Rattle.list_laws.proofs.Kit.{◌≡◌, ◌≢◌, ℕ, zero, suc, ◌+◌, ◌*◌, ◌-◌, ◌<◌, ◌≤◌, List, [], ◌∷◌, ◌++◌, length, get_or, drop, min, refl, sym, ap, subst, ◌∙◌}
+use Rattle.list_laws.proofs.Kit.{arith, inl, inr, lit≤, drop_more, cases_lt}
+use Rattle.std.proofs.Common.{append_assoc}
+use Rattle.text_defs.specs.Prelude.{IsFaulty, opening, closing, atom_text}
 use Rattle.fault_places.proofs.Places.{Through, Through-step, Through-stuck, Through-short, Through-start}
 use Rattle.tensor_defs.specs.Jahn.{BracketKind, Atom, IsAtom, atom_rank, Symmetric, Antisymmetric, V, Bracketed}
-use Rattle.text_defs.specs.JahnTexts.{opening, closing, atom_text}
 use Rattle.list_laws.proofs.Lists.{heads, tails}
 use Rattle.jahn_grammar.specs.Views.{HasAtom, closer, IsOpening, IsDigit}
 

@@ -2,14 +2,12 @@
 --   factor_out      behind a factor whose power was read stand further factors
 --   factors_wrong   a text goes wrong in its factor where it goes wrong in the atom
 --   takes_power, takes_bare    the factor with and without a power behind its atom
-use Rattle.std.proofs.Common.{◌≡◌, ◌≢◌, ℕ, ◌+◌, ◌-◌, ◌*◌, ◌<◌, ◌≤◌, min, List, [], ◌∷◌, ◌++◌, length, get_or, take, drop}
-use Rattle.std.proofs.Common.{refl, sym, ap, subst, ◌∙◌, arith, inl, inr, append_assoc, lit≤}
-use Rattle.std.proofs.lemmas.Bool.Decides.{eqb_tells}
-use Rattle.std.proofs.lemmas.Bool.{ne_eqb}
-use Rattle.std.proofs.lemmas.List.{drop_more, take-append-drop, append-nil}
-use Rattle.text_defs.specs.Languages.{Begins, IsFaulty}
+use Rattle.list_laws.proofs.Kit.{◌≡◌, ◌≢◌, ℕ, ◌+◌, ◌-◌, ◌*◌, ◌<◌, ◌≤◌, min, List, [], ◌∷◌, ◌++◌, length, get_or, take, drop, refl, sym, ap, subst, ◌∙◌, arith}
+use Rattle.list_laws.proofs.Kit.{inl, inr, lit≤, eqb_tells, ne_eqb, drop_more}
+use Rattle.std.proofs.Common.{append_assoc}
+use Rattle.std.proofs.lemmas.List.{take-append-drop, append-nil}
+use Rattle.text_defs.specs.Prelude.{Begins, IsFaulty, atom_text, power_text, factor_text, no_marks}
 use Rattle.tensor_defs.specs.Jahn.{Atom, Factor, IsAtom, IsFactor, atom_rank}
-use Rattle.text_defs.specs.JahnTexts.{atom_text, power_text, factor_text, no_marks}
 use Rattle.list_laws.proofs.Lists.{tails, first_part}
 use Rattle.text_laws.proofs.JahnUnique.{one_atom}
 use Rattle.jahn_grammar.specs.Views.{HasAtom, HasFactor, IsDigit, AreFactorsText, TakesFactor, AtomIs, FactorFrom}

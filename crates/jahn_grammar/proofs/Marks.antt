@@ -6,8 +6,7 @@ use Rattle.std.proofs.Common.{◌≡◌, ◌≢◌, ◌⊎◌, ℕ, ◌≤◌, B
 use Rattle.std.proofs.Common.{◌∙◌, arith, inl, inr, append_assoc, lit≤}
 use Rattle.std.specs.Prelude.{codes}
 use Rattle.std.proofs.lemmas.List.{append-nil, append_cancel_left}
-use Rattle.tensor_defs.specs.Tensor.{Marks}
-use Rattle.tensor_defs.specs.Jahn.{Atom, Factor, AreFactors, Symmetric, Antisymmetric, V, Bracketed}
+use Rattle.tensor_defs.specs.Prelude.{Marks, Atom, Factor, AreFactors, Symmetric, Antisymmetric, V, Bracketed}
 use Rattle.text_defs.specs.JahnTexts.{atom_text, power_text, factor_text, AreMarks, SpellsFactors, SpellsBody, IsJahnText}
 use Rattle.list_laws.proofs.Lists.{heads, tails, none_some, first_part}
 use Rattle.jahn_grammar.specs.Views.{IsMark, IsDigit, AreFactorsText, HasFactor}

@@ -3,22 +3,18 @@
 --   Scanned         what is read up to the end of a factor
 --   Ready           what is read up to a factor, behind its marks
 --   Scanned-end     at the word's end a symbol is spelled
-use Rattle.std.proofs.Common.{◌≡◌, ◌≢◌, ℕ, zero, suc, ◌+◌, ◌*◌, ◌<◌, ◌≤◌, Bool, true, false, List, [], ◌∷◌, ◌++◌, length, get_or}
-use Rattle.std.proofs.Common.{drop, min, refl, sym, ap, subst, ◌∙◌, arith, inl, inr, append_assoc, lit≤}
+use Rattle.list_laws.proofs.Kit.{◌≡◌, ◌≢◌, ℕ, zero, suc, ◌+◌, ◌*◌, ◌<◌, ◌≤◌, Bool, true, false, List, [], ◌∷◌, ◌++◌, length, get_or, drop, min, refl, sym, ap}
+use Rattle.list_laws.proofs.Kit.{subst, ◌∙◌, arith, inl, inr, lit≤, drop_more, cases_lt, drop_of_length-le}
+use Rattle.std.proofs.Common.{append_assoc}
 use Rattle.std.specs.Prelude.{codes}
-use Rattle.std.proofs.lemmas.List.{drop_more, length-drop, length-append, append-nil}
-use Rattle.std.proofs.lemmas.Bool.{cases_lt}
-use Rattle.std.proofs.Math.ListN.{drop_of_length-le}
+use Rattle.std.proofs.lemmas.List.{length-drop, length-append, append-nil}
 use mathlib.Core.Bool.{xor}
-use Rattle.text_defs.specs.Languages.{IsFaulty}
+use Rattle.text_defs.specs.Prelude.{IsFaulty, atom_text, power_text, factor_text, AreMarks, SpellsFactors, SpellsBody, SpellsJahn, IsJahnText, no_marks}
+use Rattle.text_defs.specs.Prelude.{together}
 use Rattle.fault_places.proofs.Places.{Through, Through-step, Through-stuck, Through-start, Through-skip, Through-first}
 use Rattle.fault_places.proofs.Places.{Through-near, Through-faulty, faulty}
-use Rattle.tensor_defs.specs.Tensor.{Marks}
-use Rattle.tensor_defs.specs.Jahn.{Atom, Factor, JahnSymbol, IsFactor, AreFactors, atom_rank, factors_rank, V, Bracketed}
-use Rattle.text_defs.specs.JahnTexts.{atom_text, power_text, factor_text, AreMarks, SpellsFactors, SpellsBody, SpellsJahn, IsJahnText}
-use Rattle.text_defs.specs.JahnTexts.{no_marks, together}
-use Rattle.list_laws.proofs.Lists.{heads, none_some}
-use Rattle.list_laws.proofs.Tests.{xor_assoc}
+use Rattle.tensor_defs.specs.Prelude.{Marks, Atom, Factor, JahnSymbol, IsFactor, AreFactors, atom_rank, factors_rank, V, Bracketed}
+use Rattle.list_laws.proofs.Prelude.{heads, none_some, xor_assoc}
 use Rattle.jahn_grammar.specs.Views.{HasAtom, HasFactor, IsDigit, MarksAre, AreFactorsText, TakesFactor, FactorFrom}
 use Rattle.jahn_grammar.proofs.FactorTexts.{factor_out, factors_wrong}
 use Rattle.jahn_grammar.proofs.Marks.{behind_some, marked_some, marked_factor}

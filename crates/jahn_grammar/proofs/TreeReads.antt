@@ -3,15 +3,12 @@
 --   Taken-factor    behind the next marks stands a factor
 --   Taken-more      one factor more
 --   bare_read       a symbol without factors
-use Rattle.std.proofs.Common.{◌≡◌, ℕ, ◌+◌, ◌-◌, ◌<◌, ◌≤◌, ◌≢◌, Bool, true, false, eqb, List, [], ◌∷◌, ◌++◌, length, get_or}
-use Rattle.std.proofs.Common.{take, drop, refl, sym, ap, subst, ◌∙◌, arith, inl, inr}
-use Rattle.std.specs.List.{list_any}
-use Rattle.std.proofs.lemmas.Bool.{cases_lt}
-use Rattle.std.proofs.lemmas.List.{take_all, length-drop, length-append}
+use Rattle.list_laws.proofs.Kit.{◌≡◌, ℕ, ◌+◌, ◌-◌, ◌<◌, ◌≤◌, ◌≢◌, Bool, true, false, eqb, List, [], ◌∷◌, ◌++◌, length, get_or, take, drop, refl, sym, ap}
+use Rattle.list_laws.proofs.Kit.{subst, ◌∙◌, arith, inl, inr, list_any, cases_lt, take_all}
+use Rattle.std.proofs.lemmas.List.{length-drop, length-append}
 use mathlib.Core.Bool.{xor}
-use Rattle.tensor_defs.specs.Tensor.{Marks}
+use Rattle.tensor_defs.specs.Prelude.{Marks, JahnSymbol}
 use Rattle.tensor_defs.specs.Jahn as defs
-use Rattle.tensor_defs.specs.Jahn.{JahnSymbol}
 use Rattle.text_defs.specs.JahnTexts.{factor_text, AreMarks, SpellsBody, SpellsFactors, SpellsJahn, IsJahnText}
 use Rattle.jahn_grammar.specs.declared.Factor.{Factor}
 use Rattle.jahn_grammar.specs.Trees.{factor_of, factors_of}

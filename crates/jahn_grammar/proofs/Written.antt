@@ -1,6 +1,5 @@
 -- The text that is written for a symbol.
-use Rattle.std.proofs.Common.{◌≡◌, ℕ, ◌≤◌, Bool, true, false, List, [], ◌∷◌, ◌++◌, length}
-use Rattle.std.proofs.Common.{take, drop, refl, inl, inr}
+use Rattle.list_laws.proofs.Kit.{◌≡◌, ℕ, ◌≤◌, Bool, true, false, List, [], ◌∷◌, ◌++◌, length, take, drop, refl, inl, inr}
 use mathlib.Core.Bool.{xor}
 use Rattle.tensor_defs.specs.Tensor.{Marks}
 use Rattle.tensor_defs.specs.Jahn as defs

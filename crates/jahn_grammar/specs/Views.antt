@@ -13,12 +13,9 @@
 --   ReadsRank       the word spells a symbol of this rank, or goes wrong at the place
 --   ReadsJahn       the word spells the symbol of this tree; or goes wrong; or its rank is above 6; or memory is wanted for a
 --                   symbol of a rank to 6
-use Rattle.std.specs.Prelude.{◌≡◌, ◌⊎◌, ◌==◌, if◌then◌else◌, ◌∷◌, Bool, ℕ, ◌≤◌, ◌<◌, ◌+◌, ◌*◌, List, ◌++◌, drop, get_or, length, Result, Ok}
-use Rattle.std.specs.Prelude.{Err, min}
-use Rattle.tensor_defs.specs.Tensor.{Marks}
-use Rattle.tensor_defs.specs.Jahn.{Atom, Factor, IsAtom, IsFactor, AreFactors, JahnSymbol, atom_rank, rank}
-use Rattle.text_defs.specs.Languages.{IsFaulty}
-use Rattle.text_defs.specs.JahnTexts.{atom_text, factor_text, AreMarks, SpellsFactors, SpellsJahn, IsJahnText}
+use Rattle.std.specs.Prelude.{◌≡◌, ◌⊎◌, ◌==◌, if◌then◌else◌, ◌∷◌, Bool, ℕ, ◌≤◌, ◌<◌, ◌+◌, ◌*◌, List, ◌++◌, drop, get_or, length, Result, Ok, Err, min}
+use Rattle.tensor_defs.specs.Prelude.{Marks, Atom, Factor, IsAtom, IsFactor, AreFactors, JahnSymbol, atom_rank, rank}
+use Rattle.text_defs.specs.Prelude.{IsFaulty, atom_text, factor_text, AreMarks, SpellsFactors, SpellsJahn, IsJahnText}
 use Rattle.text_defs.specs.declared.Fault.{Fault}
 use Rattle.jahn_grammar.specs.declared.RankCount.{RankCount}
 use Rattle.jahn_grammar.specs.declared.RankCount.TheVariants.{Known, More}

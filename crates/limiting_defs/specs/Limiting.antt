@@ -13,13 +13,8 @@ use lib.IntN.{ℤ}
 use Rattle.tensor_defs.specs.declared.OpKind.TheVariants.{Two, Mirror}
 use Rattle.tensor_defs.specs.declared.Direction.TheVariants.{X, Z}
 use Rattle.tensor_defs.specs.declared.Setting.TheVariants as setting
-use Rattle.tensor_defs.specs.Frames.{IsThe}
-use Rattle.tensor_defs.specs.Jahn.{JahnSymbol, rank, HasSymmetry}
-use Rattle.tensor_defs.specs.Lists.{Each}
-use Rattle.tensor_defs.specs.Number.{Number, add, mul, neg, num_zero, num_one, fraction}
-use Rattle.tensor_defs.specs.Operation.{x1, x2, x3, Operation, value}
-use Rattle.tensor_defs.specs.Symbols.{GroupSymbol, operation_of}
-use Rattle.tensor_defs.specs.Tensor.{Tensor, Agree}
+use Rattle.tensor_defs.specs.Prelude.{IsThe, JahnSymbol, rank, HasSymmetry, Each, Number, add, mul, neg, num_zero, num_one, fraction, x1, x2, x3, Operation}
+use Rattle.tensor_defs.specs.Prelude.{value, GroupSymbol, operation_of, Tensor, Agree}
 use Rattle.limiting_defs.specs.Matrices.{Matrix, SameEntries, product_of, act_by}
 use Rattle.limiting_defs.specs.declared.Curie.{Curie}
 use Rattle.limiting_defs.specs.declared.Curie.TheVariants.{Inf, InfM, Inf2, InfOverM, InfOverMM}

@@ -6,9 +6,7 @@
 --   axial_factor, act_by    det R for e; the component list carried by a matrix, with no time reversal
 -- Source: facts of matrices; International Tables D 1.1.
 use Rattle.std.specs.Prelude.{◌≡◌, Bool, true, false, List, [], ◌∷◌, length}
-use Rattle.tensor_defs.specs.Number.{Number, mul, num_zero, num_one}
-use Rattle.tensor_defs.specs.Operation.{Axis, sum_axes, value, determinant, identity}
-use Rattle.tensor_defs.specs.Tensor.{Index, Tensor, Marks, sum_indices}
+use Rattle.tensor_defs.specs.Prelude.{Number, mul, num_zero, num_one, Axis, sum_axes, value, determinant, identity, Index, Tensor, Marks, sum_indices}
 
 abbrev pub Matrix : Type 0
 Matrix = Axis → Axis → Number

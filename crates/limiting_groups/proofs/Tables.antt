@@ -3,24 +3,12 @@
 --   curie_grows, curie_calm    a number grows exactly where the elimination's does
 use Rattle.std.proofs.Common.{◌≡◌, ℕ, ◌^◌, ◌↔◌, List, [], sym, ◌∙◌, subst, inl, inr}
 use Rattle.std.specs.Prelude.{Bool, filter}
-use Rattle.tensor_defs.specs.Elimination.{AreRepresentatives, AreUnknowns, Carrier, GrowsFrom, IsDropped}
-use Rattle.tensor_defs.specs.Group.{InGroup}
-use Rattle.tensor_defs.specs.Jahn.{JahnSymbol, rank}
-use Rattle.tensor_defs.specs.Lists.{Each, IsListing}
-use Rattle.tensor_defs.specs.Operation.{Operation}
-use Rattle.tensor_defs.specs.OperationOrder.{comes_before}
-use Rattle.tensor_defs.specs.Orders.{index_before}
-use Rattle.tensor_defs.specs.Table.{Table}
-use Rattle.tensor_defs.specs.Tensor.{Index, Tensor}
-use Rattle.tensor_defs.specs.Words.{Word, words}
+use Rattle.tensor_defs.specs.Prelude.{AreRepresentatives, AreUnknowns, Carrier, GrowsFrom, IsDropped, InGroup, JahnSymbol, rank, Each, IsListing, Operation}
+use Rattle.tensor_defs.specs.Prelude.{comes_before, index_before, Table, Index, Tensor, Word, words}
 use Rattle.magnetic_groups.specs.Sets.{In}
 use Rattle.sign_moves.specs.declared.classes.Entry.{Entry}
-use Rattle.tensor_rank.specs.Orders.{ByIndex, Ordering, before_at, before_of}
-use Rattle.tensor_rank.specs.ShapeValue.{ShapeValue}
-use Rattle.tensor_rank.specs.Shapes.{IsShapeOf}
-use Rattle.tensor_rank.specs.StrictOrders.{orders_are_orders}
-use Rattle.constraint_rows.specs.Choices.{is_turning}
-use Rattle.constraint_rows.specs.WordRows.{AreParts, AreSound, AreWordRows, carrier_of}
+use Rattle.tensor_rank.specs.Prelude.{ByIndex, Ordering, before_at, before_of, ShapeValue, IsShapeOf, orders_are_orders}
+use Rattle.constraint_rows.specs.Prelude.{is_turning, AreParts, AreSound, AreWordRows, carrier_of}
 use Rattle.constraint_rows.specs.declared.rows.Part.{Part}
 use Rattle.axis_laws.specs.Laws.{OneElimination}
 use Rattle.reduced_form.specs.Solving.{FitsSet, IsSolution, lines_at}

@@ -4,13 +4,8 @@
 --                   components that are their own representatives under the diagonal members
 -- Source: the definition of a parametrised linear space; the elimination is this project's own.
 use Rattle.std.specs.Prelude.{List, [], filter}
-use Rattle.tensor_defs.specs.Elimination.{AreRepresentatives, AreUnknowns, Carrier, GrowsFrom, rows_of}
-use Rattle.tensor_defs.specs.Group.{InGroup}
-use Rattle.tensor_defs.specs.Jahn.{JahnSymbol, rank}
-use Rattle.tensor_defs.specs.Orders.{index_before}
-use Rattle.tensor_defs.specs.Table.{Table}
-use Rattle.tensor_defs.specs.Tensor.{Index}
-use Rattle.tensor_defs.specs.Words.{words}
+use Rattle.tensor_defs.specs.Prelude.{AreRepresentatives, AreUnknowns, Carrier, GrowsFrom, rows_of, InGroup, JahnSymbol, rank, index_before, Table, Index}
+use Rattle.tensor_defs.specs.Prelude.{words}
 use Rattle.constraint_rows.specs.Choices.{is_turning}
 use Rattle.reduced_form.specs.Solving.{FitsSet}
 use Rattle.limiting_defs.specs.Limiting.{IsCurieInvariant, diagonal_symbol}

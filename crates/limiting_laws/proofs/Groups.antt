@@ -4,30 +4,18 @@
 --   diagonal_invariant    such a tensor is invariant under the diagonal point group
 --   turning_rows_decide_lem    both ways
 --   diagonals_accepted_lem     the symbols of these point groups are accepted
-use Rattle.std.proofs.Common.{◌≡◌, ◌≢◌, ℕ, ◌+◌, ◌<◌, Bool, true, false, cond, List, [], ◌∷◌, length, refl, ap, sym, ◌∙◌, arith, inl, inr, subst, lit<}
+use Rattle.list_laws.proofs.Kit.{◌≡◌, ◌≢◌, ℕ, ◌+◌, ◌<◌, Bool, true, false, cond, List, [], ◌∷◌, length, refl, ap, sym, ◌∙◌, arith, inl, inr, subst, lit<}
+use Rattle.list_laws.proofs.Kit.{nat_tests, same_Some}
 use Rattle.std.specs.Prelude.{Contains, filter, nat_eq}
-use Rattle.std.proofs.lemmas.Bool.Decides.{nat_tests}
-use Rattle.std.proofs.lemmas.Option.{same_Some}
 use mathlib.Core.Bool.{xor}
 use lib.IntN.{negsuc, pos}
 use Rattle.list_laws.proofs.Members.{each_held, each_map}
 use Rattle.number_laws.proofs.NumberLaws.{num_add-zero, num_mul-one, num_mul-zero, num_zero-add}
-use Rattle.tensor_defs.specs.Elimination.{AreRepresentatives, AreUnknowns, Carrier}
-use Rattle.tensor_defs.specs.Frames.{IsDiagonal, IsUnit}
-use Rattle.tensor_defs.specs.Group.{InGroup, IsProductOf}
-use Rattle.tensor_defs.specs.Jahn.{JahnSymbol, IsInvariant, rank}
-use Rattle.tensor_defs.specs.Lists.{Each}
-use Rattle.tensor_defs.specs.Number.{add, mul, num_zero, whole, half_of, fraction, same_numbers}
-use Rattle.tensor_defs.specs.Operation.{x1, x2, x3, Entry, IsProduct, Operation, identity, matrix, minus_one, nought, one, reversal, value}
-use Rattle.tensor_defs.specs.Orders.{IsOrder}
-use Rattle.tensor_defs.specs.Symbols.{generators, parent_operators}
-use Rattle.tensor_defs.specs.Tensor.{Agree, Index, Marks, Tensor, act}
-use Rattle.tensor_defs.specs.Words.{Word, begins_plus, minus_count, plus_count, words}
-use Rattle.tensor_laws.proofs.ActionLaws.{acts_in_turn, identity_acts_lem, half_of_two, half_of_none}
-use Rattle.tensor_laws.proofs.Agreeing.{act-agree}
-use Rattle.tensor_laws.proofs.Products.{product_tested}
-use Rattle.tensor_laws.proofs.WordRows.{row_sums}
-use Rattle.tensor_laws.proofs.WordTurns.{complex_same}
+use Rattle.tensor_defs.specs.Prelude.{AreRepresentatives, AreUnknowns, Carrier, IsDiagonal, IsUnit, InGroup, IsProductOf, JahnSymbol, IsInvariant, rank, Each}
+use Rattle.tensor_defs.specs.Prelude.{add, mul, num_zero, whole, half_of, fraction, same_numbers, x1, x2, x3, Entry, IsProduct, Operation, identity, matrix}
+use Rattle.tensor_defs.specs.Prelude.{minus_one, nought, one, reversal, value, IsOrder, generators, parent_operators, Agree, Index, Marks, Tensor, act, Word}
+use Rattle.tensor_defs.specs.Prelude.{begins_plus, minus_count, plus_count, words}
+use Rattle.tensor_laws.proofs.Prelude.{acts_in_turn, identity_acts_lem, half_of_two, half_of_none, act-agree, product_tested, row_sums, complex_same}
 use Rattle.constraint_rows.specs.Choices.{is_turning}
 use Rattle.constraint_rows.proofs.InvariantLaws.{generators_suffice}
 use Rattle.axis_laws.proofs.Invariance.{diagonal_kept, none_told, solve_of, solve_told, some_told, sums_carried}

@@ -4,13 +4,9 @@
 --   act_by-act      an operation acts as its matrix
 use Rattle.std.proofs.Common.{◌≡◌, ℕ, Bool, true, false, [], ◌∷◌, length, refl, ap, sym, ◌∙◌}
 use Rattle.number_laws.proofs.NumberLaws.{num_mul_assoc, num_mul-add, num_mul-one, num_mul_left_comm, num_one-mul}
-use Rattle.tensor_defs.specs.Number.{Number, add, mul, num_one}
-use Rattle.tensor_defs.specs.Operation.{Axis, x1, x2, x3, sum_axes, Operation, value}
-use Rattle.tensor_defs.specs.Tensor.{Index, Tensor, Marks, Agree, act, axial_sign, coefficient, sign, sum_indices, time_sign}
-use Rattle.tensor_laws.proofs.Action.{sum_indices-add, sum_indices-mul, sum_indices-same}
-use Rattle.tensor_laws.proofs.Agreeing.{sum_indices-agree}
-use Rattle.tensor_laws.proofs.Determinant.{determinant-product}
-use Rattle.tensor_laws.proofs.Associativity.{exchange}
+use Rattle.tensor_defs.specs.Prelude.{Number, add, mul, num_one, Axis, x1, x2, x3, sum_axes, Operation, value, Index, Tensor, Marks, Agree, act, axial_sign}
+use Rattle.tensor_defs.specs.Prelude.{coefficient, sign, sum_indices, time_sign}
+use Rattle.tensor_laws.proofs.Prelude.{sum_indices-add, sum_indices-mul, sum_indices-same, sum_indices-agree, determinant-product, exchange}
 use Rattle.limiting_defs.specs.Matrices.{Matrix, SameEntries, times, entries_product, axial_factor, act_by}
 
 -- the sum of the action, with no factor

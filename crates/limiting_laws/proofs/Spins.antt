@@ -2,18 +2,15 @@
 --   power, cancel   the powers of a number, and that those of a unit number can be taken away
 --   phase_power     the factor of a word is the power of its count of + less its count of -
 --   fixed_zero      what a power of (3 + 4i)/5 other than 1 leaves the same is 0
-use Rattle.std.proofs.Common.{◌≡◌, ◌≢◌, ℕ, zero, suc, ◌+◌, ◌-◌, ◌<◌, [], ◌∷◌, refl, ap, sym, ◌∙◌, arith, inl, inr, lit<}
-use Rattle.std.proofs.lemmas.Bool.{cases_order}
+use Rattle.list_laws.proofs.Kit.{◌≡◌, ◌≢◌, ℕ, zero, suc, ◌+◌, ◌-◌, ◌<◌, [], ◌∷◌, refl, ap, sym, ◌∙◌, arith, inl, inr, lit<, cases_order}
 use borrow.Author.Differences.{ints}
 use lib.IntN.{ℤ, pos, negsuc, ◌+ℤ◌, ◌*ℤ◌, +ℤ_idr}
 use Rattle.number_laws.proofs.Fractions.{fraction-cancel}
 use Rattle.number_laws.proofs.NumberLaws.{num_add-zero, num_add-neg, num_mul-zero, num_mul_assoc, num_neg-neg, num_one-mul, num_zero-mul, ring}
-use Rattle.tensor_defs.specs.IntRing.{mul-zero_ℤ, ring_ℤ}
-use Rattle.tensor_defs.specs.Number.{Number, add, mul, neg, num_zero, num_one, whole, fraction, same_numbers}
-use Rattle.tensor_defs.specs.Words.{level, plus, minus, Word, plus_count, minus_count}
-use Rattle.tensor_laws.proofs.WordTurns.{complex_same, phase, halve}
+use Rattle.tensor_defs.specs.Prelude.{mul-zero_ℤ, ring_ℤ, Number, add, mul, neg, num_zero, num_one, whole, fraction, same_numbers, level, plus, minus, Word}
+use Rattle.tensor_defs.specs.Prelude.{plus_count, minus_count}
+use Rattle.tensor_laws.proofs.Prelude.{complex_same, phase, halve, c_mul_assoc}
 use Rattle.tensor_laws.specs.WordSums.{Complex, c_mul}
-use Rattle.tensor_laws.proofs.ThreeFold.{c_mul_assoc}
 use Rattle.constraint_rows.proofs.GatherLaws.{whole-add}
 
 -- ---- products

@@ -2,17 +2,13 @@
 --   turned_axis, turn_words    a rotation multiplies the sum of a word by its factor
 --   kept_vanish, vanish_kept    the two ways
 --   turns_decide_lem    both
-use Rattle.std.proofs.Common.{◌≡◌, ℕ, Bool, true, false, [], ◌∷◌, length, refl, ap, sym, ◌∙◌, inl, inr, lit<}
-use Rattle.std.proofs.lemmas.Bool.{cases_eq}
+use Rattle.list_laws.proofs.Kit.{◌≡◌, ℕ, Bool, true, false, [], ◌∷◌, length, refl, ap, sym, ◌∙◌, inl, inr, lit<, cases_eq}
 use lib.IntN.{negsuc, pos}
 use Rattle.number_laws.proofs.NumberLaws.{num_add-zero, num_mul-one, num_mul-zero, num_one-mul, num_zero-add, num_zero-mul, ring}
-use Rattle.tensor_defs.specs.Number.{Number, add, mul, neg, num_zero, num_one, whole}
-use Rattle.tensor_defs.specs.Operation.{Axis, x1, x2, x3, determinant}
-use Rattle.tensor_defs.specs.Tensor.{Index, Tensor, Marks, Agree}
-use Rattle.tensor_defs.specs.Words.{level, plus, minus, Word, plus_count, minus_count}
-use Rattle.tensor_laws.proofs.WordTurns.{complex_same, phase, words_tell, word_sum-mul, word_sum-add, level_law, minus_squared}
+use Rattle.tensor_defs.specs.Prelude.{Number, add, mul, neg, num_zero, num_one, whole, Axis, x1, x2, x3, determinant, Index, Tensor, Marks, Agree, level}
+use Rattle.tensor_defs.specs.Prelude.{plus, minus, Word, plus_count, minus_count}
+use Rattle.tensor_laws.proofs.Prelude.{complex_same, phase, words_tell, word_sum-mul, word_sum-add, level_law, minus_squared, word_sum-agree, c_mul_assoc}
 use Rattle.tensor_laws.specs.WordSums.{Complex, c_add, c_mul, c_scale, times_i, times_minus_i, word_sum}
-use Rattle.tensor_laws.proofs.ThreeFold.{word_sum-agree, c_mul_assoc}
 use Rattle.limiting_defs.specs.Matrices.{Matrix, axial_factor, act_by}
 use Rattle.limiting_defs.specs.Limiting.{IsRotation, rotation}
 use Rattle.limiting_laws.specs.Laws.{TurningVanish, TurnsDecide}

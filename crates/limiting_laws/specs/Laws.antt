@@ -7,13 +7,8 @@
 --   DiagonalsAccepted    the symbols of the diagonal members are accepted
 -- Source: a rotation about z multiplies the sum of a word by a unit number; International Tables D 1.1 for invariance.
 use Rattle.std.specs.Prelude.{◌≡◌, ◌≢◌, ◌↔◌, ℕ, Bool, List, length, filter}
-use Rattle.tensor_defs.specs.Elimination.{AreRepresentatives, AreUnknowns, Carrier}
-use Rattle.tensor_defs.specs.Group.{InGroup, IsAccepted}
-use Rattle.tensor_defs.specs.Jahn.{JahnSymbol, rank}
-use Rattle.tensor_defs.specs.Number.{num_zero}
-use Rattle.tensor_defs.specs.Orders.{IsOrder}
-use Rattle.tensor_defs.specs.Tensor.{Agree, Index, Marks, Tensor}
-use Rattle.tensor_defs.specs.Words.{Word, minus_count, plus_count, words}
+use Rattle.tensor_defs.specs.Prelude.{AreRepresentatives, AreUnknowns, Carrier, InGroup, IsAccepted, JahnSymbol, rank, num_zero, IsOrder, Agree, Index, Marks}
+use Rattle.tensor_defs.specs.Prelude.{Tensor, Word, minus_count, plus_count, words}
 use Rattle.tensor_laws.specs.WordSums.{word_sum}
 use Rattle.axis_laws.specs.Laws.{SolvesWords}
 use Rattle.constraint_rows.specs.Choices.{is_turning}

@@ -1,23 +1,12 @@
 -- The answers to requests of each kind, by what their parts give.
 --   elements_grown, forms_grown, voigt_grown, differ_grown, states_grown, pairs_grown, same_grown    a list grew by the answer
 use Rattle.std.proofs.Common.{◌≡◌, ◌⊎◌, inl, inr, ⊎_elim, ℕ, ◌≤◌, true, false, List, ◌++◌, length, refl, sym, subst}
-use Rattle.tensor_defs.specs.Elimination.{Grows}
-use Rattle.tensor_defs.specs.Group.{InGroup, IsAccepted}
-use Rattle.tensor_defs.specs.Jahn.{AdmitSame, JahnSymbol, rank}
-use Rattle.tensor_defs.specs.Lists.{Each, IsListing}
-use Rattle.tensor_defs.specs.Operation.{Operation}
-use Rattle.tensor_defs.specs.OperationOrder.{comes_before}
-use Rattle.tensor_defs.specs.Orders.{index_before}
-use Rattle.tensor_defs.specs.PairClasses.{PairClass, ArePairClasses}
-use Rattle.tensor_defs.specs.States.{AreStates}
-use Rattle.tensor_defs.specs.Voigt.{HasBlocks, IsVoigtTable, VoigtGrows, VoigtTable}
+use Rattle.tensor_defs.specs.Prelude.{Grows, InGroup, IsAccepted, AdmitSame, JahnSymbol, rank, Each, IsListing, Operation, comes_before, index_before}
+use Rattle.tensor_defs.specs.Prelude.{PairClass, ArePairClasses, AreStates, HasBlocks, IsVoigtTable, VoigtGrows, VoigtTable}
 use Rattle.tensor_defs.specs.declared.Weights.{Weights}
 use Rattle.state_marks.specs.Told.{MarksGrow}
-use Rattle.text_defs.specs.AnswerTexts.{elements_text, pairs_text, same_text, states_text, voigt_text}
-use Rattle.text_defs.specs.Answers.{IsDifferText, IsFormText}
-use Rattle.text_defs.specs.Refusals.{IsOutside}
-use Rattle.text_defs.specs.Requests.{JahnAt}
-use Rattle.text_defs.specs.Requests.Request.{Form, Group, Voigt, States, Pairs, Differ, Same}
+use Rattle.text_defs.specs.Prelude.{elements_text, pairs_text, same_text, states_text, voigt_text, IsDifferText, IsFormText, IsOutside, JahnAt, Form, Group}
+use Rattle.text_defs.specs.Prelude.{Voigt, States, Pairs, Differ, Same}
 use Rattle.request_lines.specs.declared.Named.{Named}
 use Rattle.line_answers.specs.Kinds.{IsGrownBy, IsJoinedOnto, group_at}
 use Rattle.line_answers.proofs.Words.{none_first}

@@ -6,16 +6,12 @@
 --   passed_ends, long_ends, syntax_ends, refusal_ends, grown_ends    how the answer of a line ends
 use Rattle.std.proofs.Common.{◌≡◌, inl, inr, ℕ, ◌+◌, ◌<◌, ◌≤◌, List, [], ◌∷◌, ◌++◌, length, refl, sym, ◌∙◌, subst, arith}
 use Rattle.std.proofs.lemmas.List.{append-nil}
-use Rattle.tensor_defs.specs.Group.{IsAccepted}
-use Rattle.tensor_defs.specs.Jahn.{rank}
-use Rattle.tensor_defs.specs.Lists.{Each}
+use Rattle.tensor_defs.specs.Prelude.{IsAccepted, rank, Each}
 use Rattle.text_defs.specs.declared.Format.{Format}
-use Rattle.text_defs.specs.Answers.{IsAnswer}
-use Rattle.text_defs.specs.Refusals.{FirstRefused, FirstAt, HasOtherShape, HasShape, IsHeading, IsPassed, IsRefused, RefusalWord, Refuses}
-use Rattle.text_defs.specs.Refusals.{RefusesRequest, groups_of, jahns_of, refusal_text}
+use Rattle.text_defs.specs.Prelude.{IsAnswer, FirstRefused, FirstAt, HasOtherShape, HasShape, IsHeading, IsPassed, IsRefused, RefusalWord, Refuses}
+use Rattle.text_defs.specs.Prelude.{RefusesRequest, groups_of, jahns_of, refusal_text, GroupAt, JahnAt, Request, SpellsRequest, IsNoRequest, longest_line}
+use Rattle.text_defs.specs.Prelude.{Form, Group, Voigt, States, Pairs, Differ, Same, Comment}
 use Rattle.text_defs.specs.Refusals.RefusalWord.{Long, Syntax, Primes, Rank, Shape, NotSub, TooLarge}
-use Rattle.text_defs.specs.Requests.{GroupAt, JahnAt, Request, SpellsRequest, IsNoRequest, longest_line}
-use Rattle.text_defs.specs.Requests.Request.{Form, Group, Voigt, States, Pairs, Differ, Same, Comment}
 use Rattle.text_laws.proofs.RequestUnique.{one_request_spelled}
 use Rattle.line_runs.specs.Answering.{Ends, IsQuick}
 use Rattle.line_runs.proofs.LongLines.{long_refused}

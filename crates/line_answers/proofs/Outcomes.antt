@@ -4,10 +4,9 @@ use Rattle.std.proofs.Common.{◌≡◌, ℕ, ◌+◌, ◌<◌, ◌≤◌, List,
 use Rattle.std.specs.Prelude.{Some}
 use Rattle.tensor_defs.specs.Symbols.{GroupSymbol}
 use Rattle.text_defs.specs.declared.Format.TheVariants.{One}
-use Rattle.text_defs.specs.AnswerTexts.{form_text, voigt_text}
+use Rattle.text_defs.specs.Prelude.{form_text, voigt_text, JahnAt, Request, SpellsRequest, IsNoRequest, Form, Group, Voigt, States, Pairs, Differ, Same}
+use Rattle.text_defs.specs.Prelude.{Comment}
 use Rattle.text_defs.specs.Refusals.RefusalWord.{Syntax}
-use Rattle.text_defs.specs.Requests.{JahnAt, Request, SpellsRequest, IsNoRequest}
-use Rattle.text_defs.specs.Requests.Request.{Form, Group, Voigt, States, Pairs, Differ, Same, Comment}
 use Rattle.generated_runs.specs.Told.{AnswersFree, AreFormsFree, Becomes, kind_of, refusal_of}
 use Rattle.generated_runs.specs.declared.draws.Kind.{Kind}
 use Rattle.generated_runs.specs.declared.counts.Refusal.{Refusal as Sort}

@@ -6,13 +6,9 @@
 use Rattle.std.proofs.Common.{◌≡◌, inl, inr, ℕ, ◌+◌, ◌-◌, take, drop, ◌<◌, ◌≤◌, List, [], ◌∷◌, refl, arith, sym, ap, subst}
 use Rattle.std.specs.Prelude.{IfOk, OnOk, Ok, Err}
 use Rattle.std.specs.declared.result.Result.{Result}
-use Rattle.tensor_defs.specs.Group.{IsAccepted}
-use Rattle.tensor_defs.specs.Jahn.{JahnSymbol, rank}
-use Rattle.tensor_defs.specs.Lists.{Each}
-use Rattle.text_defs.specs.Refusals.{AreAccepted, FirstAt, FirstRefused, HasShape, InRank, IsNotSub, JahnGrows, RefusalWord, RefusesRequest}
-use Rattle.text_defs.specs.Refusals.{jahns_of}
-use Rattle.text_defs.specs.Requests.{GroupAt, JahnAt, Request}
-use Rattle.text_defs.specs.JahnTexts.{SpellsJahn}
+use Rattle.tensor_defs.specs.Prelude.{IsAccepted, JahnSymbol, rank, Each}
+use Rattle.text_defs.specs.Prelude.{AreAccepted, FirstAt, FirstRefused, HasShape, InRank, IsNotSub, JahnGrows, RefusalWord, RefusesRequest, jahns_of, GroupAt}
+use Rattle.text_defs.specs.Prelude.{JahnAt, Request, SpellsJahn}
 use Rattle.text_laws.proofs.JahnUnique.{one_jahn}
 use Rattle.jahn_grammar.specs.Symbols.{symbol_of}
 use Rattle.jahn_grammar.specs.declared.Jahn.{Jahn}

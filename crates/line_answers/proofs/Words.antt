@@ -5,11 +5,8 @@
 --   add_more, add_all, none_add_up    sums over words
 use Rattle.std.proofs.Common.{◌≡◌, inl, inr, ℕ, zero, suc, ◌+◌, ◌-◌, ◌≤◌, List, [], ◌∷◌, ◌++◌, length, take, drop, refl, sym, ◌∙◌, ap, subst, arith, append_assoc}
 use Rattle.std.proofs.lemmas.List.{append-nil}
-use Rattle.tensor_defs.specs.Lists.{Each}
-use Rattle.tensor_defs.specs.Jahn.{JahnSymbol}
-use Rattle.text_defs.specs.Answers.{AreJoined}
-use Rattle.text_defs.specs.Refusals.{FirstAt}
-use Rattle.text_defs.specs.Requests.{JahnAt}
+use Rattle.tensor_defs.specs.Prelude.{Each, JahnSymbol}
+use Rattle.text_defs.specs.Prelude.{AreJoined, FirstAt, JahnAt}
 use Rattle.std.specs.Prelude.{None}
 use Rattle.request_lines.specs.Readings.{NthWord, IsNthWord}
 use Rattle.request_lines.specs.declared.Span.{Span}

@@ -18,17 +18,10 @@
 --   IsFreeOf        how many free components the headers of the answer to a request name
 -- Source: this project's own.
 use Rattle.std.specs.Prelude.{◌≡◌, ◌+◌, ◌<◌, ◌≤◌, ℕ, List, [], ◌∷◌, ◌++◌, length, map}
-use Rattle.tensor_defs.specs.Group.{InGroup, IsAccepted}
-use Rattle.tensor_defs.specs.Jahn.{JahnSymbol, rank}
-use Rattle.tensor_defs.specs.Orders.{index_before}
-use Rattle.tensor_defs.specs.Symbols.{GroupSymbol}
-use Rattle.tensor_defs.specs.Table.{Table, Fits}
-use Rattle.tensor_defs.specs.Voigt.{HasBlocks, VoigtTable, IsVoigtTable}
+use Rattle.tensor_defs.specs.Prelude.{InGroup, IsAccepted, JahnSymbol, rank, index_before, GroupSymbol, Table, Fits, HasBlocks, VoigtTable, IsVoigtTable}
 use Rattle.tensor_defs.specs.declared.Weights.{Weights}
-use Rattle.text_defs.specs.Answers.{AnswersRequest, AreJoined}
-use Rattle.text_defs.specs.Refusals.{AreAccepted, FirstAt, HasShape, InRank, IsNotSub, JahnGrows, RefusesRequest, groups_of, jahns_of}
-use Rattle.text_defs.specs.Requests.{GroupAt, JahnAt, Request}
-use Rattle.text_defs.specs.Requests.Request.{Form, Voigt}
+use Rattle.text_defs.specs.Prelude.{AnswersRequest, AreJoined, AreAccepted, FirstAt, HasShape, InRank, IsNotSub, JahnGrows, RefusesRequest, groups_of}
+use Rattle.text_defs.specs.Prelude.{jahns_of, GroupAt, JahnAt, Request, Form, Voigt}
 use Rattle.request_lines.specs.Readings.{TellsJahn, TellsList}
 use Rattle.request_lines.specs.declared.Named.{Named}
 use Rattle.request_lines.specs.declared.Span.{Span}

@@ -5,9 +5,7 @@
 use Rattle.std.proofs.Common.{◌≡◌, ◌⊎◌, inl, inr, ⊎_elim, ℕ, ◌+◌, List, [], ◌∷◌, ◌++◌, length, refl, sym, ◌∙◌, ap, subst, arith, append_assoc}
 use Rattle.std.proofs.lemmas.List.{append-nil}
 use Rattle.text_defs.specs.declared.Format.{Format}
-use Rattle.text_defs.specs.Refusals.{IsRefused}
-use Rattle.text_defs.specs.Answers.{IsAnswer}
-use Rattle.text_defs.specs.Lines.{AreAnswers, HasRefused, format_told}
+use Rattle.text_defs.specs.Prelude.{IsRefused, IsAnswer, AreAnswers, HasRefused, format_told}
 use Rattle.line_runs.specs.Answering.{IsTold}
 
 pub answers-push : (format : Format) (number : ℕ) (ls : List (List ℕ)) (line out answer : List ℕ) → AreAnswers format number ls out

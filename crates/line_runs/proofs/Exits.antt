@@ -6,19 +6,16 @@
 --   stops_at_break, still_fails, stops_at_end    it stops at an answer
 --   finish_end, finish_line    the outcome at the end
 --   complete, read_fault, write_fault, never_usage    what the outcome tells of the end
-use Rattle.std.proofs.Common.{◌≡◌, ⊎_elim, inl, inr, ℕ, ◌+◌, ◌<◌, ◌≤◌, Bool, true, false, ◌||◌, ◌⊎◌, IsTrue, Ok, Err, ◌↔◌, List}
-use Rattle.std.proofs.Common.{[], ◌∷◌, ◌++◌, length, take, Some, None, refl, sym, ◌∙◌, ap, subst, arith, append_assoc}
+use Rattle.list_laws.proofs.Kit.{◌≡◌, ⊎_elim, inl, inr, ℕ, ◌+◌, ◌<◌, ◌≤◌, Bool, true, false, ◌||◌, ◌⊎◌, IsTrue, Ok, Err, ◌↔◌, List, [], ◌∷◌, ◌++◌, length}
+use Rattle.list_laws.proofs.Kit.{take, Some, None, refl, sym, ◌∙◌, ap, subst, arith, take_at, IfSome, Consumes, Keeps, IsAtEnd}
+use Rattle.std.proofs.Common.{append_assoc}
 use Rattle.std.proofs.Common.{length-append}
-use Rattle.std.proofs.lemmas.List.{append-nil, take_at}
+use Rattle.std.proofs.lemmas.List.{append-nil}
 use Rattle.std.specs.declared.result.Result.{Result}
-use Rattle.std.specs.Option.{IfSome}
-use Rattle.std.specs.Io.KnownBytes.{Consumes, Keeps, IsAtEnd}
 use Rattle.tensor_ports.specs.Bytes.{Grows, GrowsInPart}
 use Rattle.tensor_ports.proofs.Growing.{grows_none, grows_more}
-use Rattle.text_defs.specs.Lines.{lines_of, whole_lines, ended, format_told, format_of, AreAnswers}
+use Rattle.text_defs.specs.Prelude.{lines_of, whole_lines, ended, format_told, format_of, AreAnswers, IsAnswer, IsRefused}
 use Rattle.text_defs.specs.declared.Format.{Format}
-use Rattle.text_defs.specs.Answers.{IsAnswer}
-use Rattle.text_defs.specs.Refusals.{IsRefused}
 use Rattle.line_runs.specs.Reads.{HasNoBreak, Stands}
 use Rattle.line_runs.specs.Answering.{Appends, IsQuick, AreQuick}
 use Rattle.line_runs.specs.Runs.{SomeLineRefused, NoLineRefused, IsAnswered, StopsReading, StopsWriting, PassesLimit, LacksMemory, Leaves, IsComplete}

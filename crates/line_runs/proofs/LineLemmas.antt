@@ -1,7 +1,6 @@
 -- The lines of an input that is cut behind a line.
-use Rattle.std.proofs.Common.{◌≡◌, ℕ, ◌≤◌, List, [], ◌∷◌, ◌++◌, length, refl, sym, ◌∙◌, ap, arith, append_assoc, length-append}
-use Rattle.std.proofs.lemmas.Bool.Decides.{nat_tests}
-use Rattle.std.specs.List.{AllByRecursion}
+use Rattle.list_laws.proofs.Kit.{◌≡◌, ℕ, ◌≤◌, List, [], ◌∷◌, ◌++◌, length, refl, sym, ◌∙◌, ap, arith, nat_tests, AllByRecursion}
+use Rattle.std.proofs.Common.{append_assoc, length-append}
 use Rattle.text_defs.specs.Lines.{onto_first, lines_of, onto_whole, whole_lines, ended}
 use Rattle.line_runs.specs.Reads.{HasNoBreak}
 

@@ -2,18 +2,14 @@
 --   long_answer, long_refused, long_slow    a line that is too long is refused, whatever its bytes
 --   stands_long, stands_true, stands_false    what is held of a line that is too long, and of another one
 --   other_length, heading_told    the line that says that an input is in format 2
-use Rattle.std.proofs.Common.{◌≡◌, inl, inr, ◌∙◌, ℕ, ◌+◌, ◌<◌, ◌≤◌, Bool, true, false, List, [], ◌∷◌, length, refl, arith, ap}
+use Rattle.list_laws.proofs.Kit.{◌≡◌, inl, inr, ◌∙◌, ℕ, ◌+◌, ◌<◌, ◌≤◌, Bool, true, false, List, [], ◌∷◌, length, refl, arith, ap, ◌↔◌, IsTrue, subst}
+use Rattle.list_laws.proofs.Kit.{nat_tests, Ok, Err}
 use Rattle.text_defs.specs.declared.Format.{Format}
 use Rattle.text_defs.specs.declared.Format.TheVariants.{One, Two}
-use Rattle.text_defs.specs.Requests.{longest_line}
-use Rattle.text_defs.specs.Refusals.{IsPassed, IsRefused, refusal_text, heading}
+use Rattle.text_defs.specs.Prelude.{longest_line, IsPassed, IsRefused, refusal_text, heading, IsAnswer}
 use Rattle.text_defs.specs.Refusals.RefusalWord.{Long}
-use Rattle.text_defs.specs.Answers.{IsAnswer}
 use Rattle.tensor_defs.specs.Lists.{same_numbers_in}
-use Rattle.std.proofs.Common.{◌↔◌, IsTrue, subst}
-use Rattle.std.proofs.lemmas.Bool.Decides.{nat_tests}
 use Rattle.std.specs.Prelude.{OnErr, MatchBool}
-use Rattle.std.proofs.Common.{Ok, Err}
 use Rattle.std.specs.declared.result.Result.{Result}
 use Rattle.list_laws.proofs.Tests.{same_numbers_own, same_numbers_told}
 use Rattle.line_runs.specs.Answering.{IsQuick}

@@ -3,12 +3,10 @@
 --   part_of         a front of what waits, or all of it and a front of the next answer
 --   Fails, fails_none    a front of what waits that isn't all is what a write fault leaves
 --   settled         all that waited was written
-use Rattle.std.proofs.Common.{◌≡◌, ◌⊎◌, inl, inr, ⊎_elim, ℕ, ◌-◌, Bool, List, [], ◌++◌, length, take, Some, None, refl, sym, ◌∙◌, ap, subst}
-use Rattle.std.proofs.Common.{arith, append_assoc, length-append}
-use Rattle.std.proofs.lemmas.List.{append-nil, take-append-le}
-use Rattle.std.proofs.Math.Seq.{take-append-add}
-use Rattle.std.proofs.lemmas.Bool.{cases_lt}
-use Rattle.std.specs.Option.{IfSome}
+use Rattle.list_laws.proofs.Kit.{◌≡◌, ◌⊎◌, inl, inr, ⊎_elim, ℕ, ◌-◌, Bool, List, [], ◌++◌, length, take, Some, None, refl, sym, ◌∙◌, ap, subst, arith}
+use Rattle.list_laws.proofs.Kit.{take-append-le, take-append-add, cases_lt, IfSome}
+use Rattle.std.proofs.Common.{append_assoc, length-append}
+use Rattle.std.proofs.lemmas.List.{append-nil}
 use Rattle.tensor_ports.specs.Bytes.{Grows, GrowsInPart}
 use Rattle.text_defs.specs.declared.Format.{Format}
 use Rattle.line_runs.specs.Runs.{StopsWriting}

@@ -5,19 +5,15 @@
 --   Next, next_of   before the answer of a line
 --   LetGo, let_go, read_end    what is held without a line feed
 --   Break, break_at, at_end    a line feed in what is held, and the end
-use Rattle.std.proofs.Common.{◌≡◌, ⊎_elim, inl, ℕ, ◌+◌, ◌<◌, ◌≤◌, Bool, true, false, ◌||◌, IsTrue, ◌↔◌, List, [], ◌∷◌}
-use Rattle.std.proofs.Common.{◌++◌, length, take, drop, Some, None, Option, refl, sym, ◌∙◌, ap, subst, arith}
+use Rattle.list_laws.proofs.Kit.{◌≡◌, ⊎_elim, inl, ℕ, ◌+◌, ◌<◌, ◌≤◌, Bool, true, false, ◌||◌, IsTrue, ◌↔◌, List, [], ◌∷◌, ◌++◌, length, take, drop, Some}
+use Rattle.list_laws.proofs.Kit.{None, Option, refl, sym, ◌∙◌, ap, subst, arith, AllByRecursion, Consumes, Keeps}
 use Rattle.std.proofs.Common.{append_assoc, length-append}
 use Rattle.std.proofs.lemmas.List.{append-nil}
-use Rattle.std.specs.List.{AllByRecursion}
 use Rattle.std.specs.Prelude.{MatchBool}
-use Rattle.std.specs.Io.KnownBytes.{Consumes, Keeps}
 use Rattle.tensor_ports.specs.Bytes.{Grows}
 use Rattle.tensor_ports.proofs.Growing.{grows_none, grows_more}
-use Rattle.text_defs.specs.Lines.{lines_of, ended, format_told, AreAnswers}
+use Rattle.text_defs.specs.Prelude.{lines_of, ended, format_told, AreAnswers, IsAnswer, IsRefused}
 use Rattle.text_defs.specs.declared.Format.{Format}
-use Rattle.text_defs.specs.Answers.{IsAnswer}
-use Rattle.text_defs.specs.Refusals.{IsRefused}
 use Rattle.line_runs.specs.Answering.{IsQuick, AreQuick, IsTold}
 use Rattle.line_runs.specs.Runs.{SomeLineRefused, NoLineRefused}
 use Rattle.line_runs.specs.Reads.{HasNoBreak, Stands}

@@ -7,10 +7,8 @@
 -- Source: this project's own.
 use Rattle.std.specs.Prelude.{◌≡◌, ◌≢◌, ◌⊎◌, ◌↔◌, ℕ, Bool, ◌+◌, List, [], ◌∷◌, ◌++◌}
 use Rattle.text_defs.specs.declared.Format.{Format}
-use Rattle.text_defs.specs.Refusals.{IsPassed, IsRefused, Refuses}
+use Rattle.text_defs.specs.Prelude.{IsPassed, IsRefused, Refuses, IsAnswer, format_told}
 use Rattle.text_defs.specs.Refusals.RefusalWord.{Long, Syntax}
-use Rattle.text_defs.specs.Answers.{IsAnswer}
-use Rattle.text_defs.specs.Lines.{format_told}
 use Rattle.line_runs.specs.Reads.{Stands}
 use Rattle.line_runs.specs.declared.lines.LineEnd.{LineEnd}
 use Rattle.line_runs.specs.declared.lines.LineEnd.TheVariants.{Empty, Refused}

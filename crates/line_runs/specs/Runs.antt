@@ -10,9 +10,8 @@ use Rattle.std.specs.Prelude.{◌≡◌, ℕ, ◌+◌, ◌<◌, ◌≤◌, List,
 use Rattle.std.specs.Io.KnownBytes.{Consumes}
 use Rattle.std.specs.declared.option.Option.{Option}
 use Rattle.tensor_ports.specs.Bytes.{Grows}
-use Rattle.text_defs.specs.Lines.{lines_of, whole_lines, ended, format_of, AreAnswers, HasRefused}
+use Rattle.text_defs.specs.Prelude.{lines_of, whole_lines, ended, format_of, AreAnswers, HasRefused, IsAnswer}
 use Rattle.text_defs.specs.declared.Format.{Format}
-use Rattle.text_defs.specs.Answers.{IsAnswer}
 use Rattle.line_runs.specs.Answering.{AreQuick}
 use Rattle.line_runs.specs.declared.outcome.Outcome.{Outcome}
 use Rattle.line_runs.specs.declared.outcome.Outcome.TheVariants.{Answered, SomeRefused, Usage, ReadFault}

@@ -5,3 +5,5 @@ pub mod Tests
 pub mod Below
 pub mod Bridges
 pub mod Digits
+pub mod Kit
+pub mod Prelude

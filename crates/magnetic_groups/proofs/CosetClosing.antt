@@ -6,19 +6,14 @@
 --   cosets_none, cosets_closed    the whole closing
 --   group_more, kept_group    groups that are closed already
 --   closed_by_none, group_next, front_kept, joined_group    with one generator after another
-use Rattle.std.proofs.Common.{◌≡◌, ℕ, ◌+◌, ◌<◌, ◌≤◌, Bool, true, false, List, [], ◌∷◌, ◌++◌, length, take, zero, suc, refl, ap, sym, ◌∙◌, arith, subst, ◌⊎◌, inl, inr}
+use Rattle.list_laws.proofs.Kit.{◌≡◌, ℕ, ◌+◌, ◌<◌, ◌≤◌, Bool, true, false, List, [], ◌∷◌, ◌++◌, length, take, zero, suc, refl, ap, sym, ◌∙◌, arith, subst}
+use Rattle.list_laws.proofs.Kit.{◌⊎◌, inl, inr, length-set, length_push, get_or_append_left, get_or_default, take_more, take_all, Contains-append_left}
+use Rattle.list_laws.proofs.Kit.{Contains-push, Contains-push_cases, Contains-get_or, cases_lt}
 use Rattle.std.specs.Prelude.{slice_index_or, set, Contains, ◌↔◌, IsTrue}
-use Rattle.std.proofs.lemmas.List.{length-set, length_push, get_or_append_left, get_or_default, take_more, take_all}
-use Rattle.std.proofs.lemmas.List.Elements.{Contains-append_left, Contains-push, Contains-push_cases, Contains-get_or}
-use Rattle.std.proofs.lemmas.Bool.{cases_lt}
-use Rattle.list_laws.proofs.Lists.{held_cases, held_here, held_later, none_held}
-use Rattle.list_laws.proofs.Rising.{rising_apart}
-use Rattle.tensor_defs.specs.Operation.{Operation, IsProduct, identity}
-use Rattle.tensor_defs.specs.OperationOrder.{comes_before, places}
-use Rattle.tensor_defs.specs.Frames.{HaveCommonFrame}
+use Rattle.list_laws.proofs.Prelude.{held_cases, held_here, held_later, none_held, rising_apart}
+use Rattle.tensor_defs.specs.Prelude.{Operation, IsProduct, identity, comes_before, places, HaveCommonFrame}
 use Rattle.tensor_laws.proofs.BlockOrder.{lexicographic_irreflexive}
-use Rattle.tensor_laws.proofs.Products.{product_unique}
-use Rattle.tensor_laws.proofs.Associativity.{product_assoc}
+use Rattle.tensor_laws.proofs.Prelude.{product_unique, product_assoc}
 use Rattle.op_matrix.specs.Table.{nth_operation, place}
 use Rattle.op_matrix.proofs.Listed.{plain_one, hex_one}
 use Rattle.magnetic_groups.specs.Joining.{AreCosets, HoldsGroup, InCoset, InFront, IsAdding}

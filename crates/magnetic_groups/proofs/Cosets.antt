@@ -1,11 +1,8 @@
 -- Left cosets of a group of operations.
 use Rattle.std.proofs.Common.{List, subst, inl, inr}
 use Rattle.std.specs.Prelude.{Contains, ◌↔◌}
-use Rattle.tensor_defs.specs.Operation.{Operation, IsProduct, identity}
-use Rattle.tensor_defs.specs.Frames.{HaveCommonFrame}
-use Rattle.tensor_defs.specs.States.{Times, InDouble}
-use Rattle.tensor_laws.proofs.Products.{product_unique}
-use Rattle.tensor_laws.proofs.Associativity.{product_assoc}
+use Rattle.tensor_defs.specs.Prelude.{Operation, IsProduct, identity, HaveCommonFrame, Times, InDouble}
+use Rattle.tensor_laws.proofs.Prelude.{product_unique, product_assoc}
 use Rattle.op_matrix.proofs.Listed.{plain_one, hex_one, OneTimes}
 use Rattle.magnetic_groups.specs.Sets.{HaveFrame, IsGroup, In, InverseIn}
 

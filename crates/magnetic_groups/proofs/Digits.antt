@@ -6,16 +6,12 @@
 --   within_told    each mark is among others
 --   either_told    the matrices that are marked
 --   gap_skipped    matrices that aren't marked
-use Rattle.std.proofs.Common.{◌≡◌, ◌≢◌, ℕ, zero, suc, ◌+◌, ◌*◌, ◌/◌, ◌%◌, ◌^◌, ◌<◌, ◌≤◌, ◌-◌, Bool, true, false, cond, List}
-use Rattle.std.proofs.Common.{length, refl, ap, sym, ◌∙◌, arith, subst, ◌⊎◌, inl, inr}
+use Rattle.list_laws.proofs.Kit.{◌≡◌, ◌≢◌, ℕ, zero, suc, ◌+◌, ◌*◌, ◌/◌, ◌%◌, ◌^◌, ◌<◌, ◌≤◌, ◌-◌, Bool, true, false, cond, List, length, refl, ap, sym, ◌∙◌}
+use Rattle.list_laws.proofs.Kit.{arith, subst, ◌⊎◌, inl, inr, bit_at, bit_not, cases_eq, cases_lt, eqb-true, length-set, get_or-set_same, get_or-set_other}
+use Rattle.list_laws.proofs.Kit.{fill_by_all, pow-succ', bit_at_lowest, bit_at-suc, shr_and_one, bit_at_or, bit_at_set_same, bit_at_set_other, bit_at-lt}
 use Rattle.std.specs.Prelude.{nat_eq, replicate, set, bit_and, bit_or, IsTrue, ◌↔◌}
-use Rattle.std.specs.Int.{bit_at, w64, bit_not}
+use Rattle.std.specs.Int.{w64}
 use Rattle.std.specs.Int.RustNames.{count_ones}
-use Rattle.std.proofs.lemmas.Bool.{cases_eq, cases_lt, eqb-true}
-use Rattle.std.proofs.lemmas.List.{length-set, get_or-set_same, get_or-set_other}
-use Rattle.std.proofs.lemmas.List.FromFn.{fill_by_all}
-use Rattle.std.proofs.Math.Nat.{pow-succ'}
-use Rattle.std.proofs.lemmas.Nat.Bits.{bit_at_lowest, bit_at-suc, shr_and_one, bit_at_or, bit_at_set_same, bit_at_set_other, bit_at-lt}
 use Rattle.list_laws.proofs.Digits.{one_digit, ones_next, digits_within, digits_outside}
 use Rattle.magnetic_groups.specs.Marks.{mark_at, marked_below, unmarked, digit_at, marks_from, marks_of, AreWithin}
 use Rattle.magnetic_groups.proofs.Marked.{marked_past_both}

@@ -6,29 +6,21 @@
 --   few, room_left    at most 96 operations have one frame
 --   doubled_closed, taken_span, span_none, doubled_common
 --       after the doubling the first elements are done for the new operation too
-use Rattle.std.proofs.Common.{[], ◌≡◌, ℕ, zero, suc, ◌+◌, ◌-◌, ◌*◌, ◌^◌, ◌/◌, ◌%◌, ◌<◌, ◌≤◌, Bool, true, false, List, ◌∷◌, ◌++◌}
-use Rattle.std.proofs.Common.{length, refl, ap, sym, ◌∙◌, arith, subst, lit<, lit≤, ◌⊎◌, inl, inr, cond, add-one}
+use Rattle.list_laws.proofs.Kit.{[], ◌≡◌, ℕ, zero, suc, ◌+◌, ◌-◌, ◌*◌, ◌^◌, ◌/◌, ◌%◌, ◌<◌, ◌≤◌, Bool, true, false, List, ◌∷◌, ◌++◌, length, refl, ap, sym}
+use Rattle.list_laws.proofs.Kit.{◌∙◌, arith, subst, lit<, lit≤, ◌⊎◌, inl, inr, cond, add-one, pow-le-pow_right, pow-succ', get_or_push, length_push}
+use Rattle.list_laws.proofs.Kit.{get_or_append_left, Contains-append_left, Contains-push, cases_lt}
 use Rattle.std.specs.Prelude.{slice_index_or, set, Contains, nat_eq}
-use Rattle.std.proofs.Math.Nat.{pow-le-pow_right, pow-succ'}
-use Rattle.std.proofs.lemmas.List.{get_or_push, length_push, get_or_append_left}
-use Rattle.std.proofs.lemmas.List.Elements.{Contains-append_left, Contains-push}
-use Rattle.std.proofs.lemmas.Bool.{cases_lt}
-use Rattle.list_laws.proofs.Below.{all_below, below_told}
-use Rattle.list_laws.proofs.Tests.{same_bool, same_bool_true}
-use Rattle.tensor_defs.specs.Operation.{Operation, IsProduct, identity}
-use Rattle.tensor_defs.specs.Frames.{IsPlain, IsHexagonal, HaveCommonFrame}
-use Rattle.tensor_laws.proofs.Products.{product_unique}
-use Rattle.tensor_laws.proofs.Associativity.{product_assoc, product_assoc_back}
-use Rattle.op_matrix.specs.Table.{nth_operation, operation_at, place}
-use Rattle.op_matrix.specs.View.{plain_frame, hex_frame}
+use Rattle.list_laws.proofs.Prelude.{all_below, below_told, same_bool, same_bool_true}
+use Rattle.tensor_defs.specs.Prelude.{Operation, IsProduct, identity, IsPlain, IsHexagonal, HaveCommonFrame}
+use Rattle.tensor_laws.proofs.Prelude.{product_unique, product_assoc, product_assoc_back}
+use Rattle.op_matrix.specs.Prelude.{nth_operation, operation_at, place, plain_frame, hex_frame}
 use Rattle.op_matrix.proofs.Facts.{inverse_at, inverse_code, half_below}
 use Rattle.op_matrix.proofs.Products.{frame_code}
 use Rattle.op_matrix.proofs.Hexagonal.{plain_at_of, hex_of}
 use Rattle.op_matrix.proofs.Order.{inverse_plain, inverse_hex, plain_closed, hex_closed}
 use Rattle.op_matrix.proofs.Listed.{plain_listed, hex_listed, plain_one, hex_one, OneTimes}
-use Rattle.magnetic_groups.specs.Marks.{mark_at, marked_below, Reached, Added, unmarked, IsClosing, IsClosed, Grows, TimesReached, IsDone}
-use Rattle.magnetic_groups.specs.Sets.{HaveFrame, Spanned, IsKept, InverseIn}
-use Rattle.magnetic_groups.specs.Greedy.{IsSpan, IsDoubled}
+use Rattle.magnetic_groups.specs.Prelude.{mark_at, marked_below, Reached, Added, unmarked, IsClosing, IsClosed, Grows, TimesReached, IsDone, HaveFrame}
+use Rattle.magnetic_groups.specs.Prelude.{Spanned, IsKept, InverseIn, IsSpan, IsDoubled}
 use Rattle.magnetic_groups.proofs.Reaching.{spanned_times, spanned_framed, spanned_plain, spanned_hex, reached_spanned, reached_more, times_more}
 use Rattle.magnetic_groups.proofs.Reaching.{grows_refl, grows_trans, added_grows, added_closing, unreached, mark_inside}
 use Rattle.magnetic_groups.proofs.Spans.{common_product, closed_kept, contains_reached, each_map, no_frame}

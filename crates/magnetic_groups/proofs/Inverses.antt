@@ -1,16 +1,12 @@
 -- A closed set of operations of one frame holds their inverses, since the twelfth power of each is the identity.
 --   inverse_in, closed_inverse    the twelfth power of each matrix is the identity
-use Rattle.std.proofs.Common.{◌≡◌, ℕ, zero, suc, ◌<◌, Bool, true, false, List, refl, ap, sym, ◌∙◌, subst, lit<, inl}
-use Rattle.std.proofs.Common.{inr}
+use Rattle.list_laws.proofs.Kit.{◌≡◌, ℕ, zero, suc, ◌<◌, Bool, true, false, List, refl, ap, sym, ◌∙◌, subst, lit<, inl, inr, eqb-true}
 use Rattle.std.specs.Prelude.{Contains, nat_eq}
-use Rattle.std.proofs.lemmas.Bool.{eqb-true}
-use Rattle.list_laws.proofs.Below.{all_below, below_told}
-use Rattle.list_laws.proofs.Tests.{both}
+use Rattle.list_laws.proofs.Prelude.{all_below, below_told, both}
 use mathlib.Core.Bool.{xor}
 use Rattle.tensor_defs.specs.Operation.{Operation, IsProduct, identity}
 use Rattle.tensor_laws.proofs.Products.{product_unique}
-use Rattle.op_matrix.specs.Table.{operation_at}
-use Rattle.op_matrix.specs.View.{hex_frame, plain_frame}
+use Rattle.op_matrix.specs.Prelude.{operation_at, hex_frame, plain_frame}
 use Rattle.op_matrix.specs.declared.entry.Frame.{Frame}
 use Rattle.op_matrix.proofs.Frames.{also}
 use Rattle.op_matrix.proofs.Products.{product_code, frame_code, common, product_at, product_code_below}

@@ -3,18 +3,12 @@
 --   marked_rising    it rises
 --   marked_first    its first member
 --   marked_length    and its length
-use Rattle.std.proofs.Common.{◌≡◌, ℕ, zero, suc, ◌+◌, ◌*◌, ◌<◌, ◌≤◌, ◌⊎◌, Bool, true, false, List, [], ◌∷◌, ◌++◌}
-use Rattle.std.proofs.Common.{length, refl, ap, sym, ◌∙◌, arith, subst, inl, inr, add-one}
+use Rattle.list_laws.proofs.Kit.{◌≡◌, ℕ, zero, suc, ◌+◌, ◌*◌, ◌<◌, ◌≤◌, ◌⊎◌, Bool, true, false, List, [], ◌∷◌, ◌++◌, length, refl, ap, sym, ◌∙◌, arith, subst}
+use Rattle.list_laws.proofs.Kit.{inl, inr, add-one, nat_tests, Contains-append_left, Contains-push, Contains-push_cases}
 use Rattle.std.specs.Prelude.{nat_lt, Contains, IsTrue, slice_get, Some}
-use Rattle.std.proofs.lemmas.Bool.Decides.{nat_tests}
 use Rattle.std.proofs.lemmas.List.{length-append}
-use Rattle.std.proofs.lemmas.List.Elements.{Contains-append_left, Contains-push, Contains-push_cases}
-use Rattle.list_laws.proofs.Rising.{rising_push}
-use Rattle.list_laws.proofs.Members.{each_from}
-use Rattle.list_laws.proofs.Lists.{none_held}
-use Rattle.tensor_defs.specs.Operation.{Operation}
-use Rattle.tensor_defs.specs.Lists.{IsRising}
-use Rattle.tensor_defs.specs.OperationOrder.{comes_before}
+use Rattle.list_laws.proofs.Prelude.{rising_push, each_from, none_held}
+use Rattle.tensor_defs.specs.Prelude.{Operation, IsRising, comes_before}
 use Rattle.op_matrix.specs.Table.{nth_operation}
 use Rattle.op_matrix.proofs.Facts.{before_places}
 use Rattle.magnetic_groups.specs.Marks.{mark_at, marked_below}

@@ -10,8 +10,7 @@ use Rattle.std.proofs.lemmas.List.{length-append, take_more, take_all}
 use Rattle.tensor_defs.specs.Operation.{Operation}
 use Rattle.op_matrix.specs.Table.{nth_operation, operation_at, place}
 use Rattle.op_matrix.proofs.Facts.{nth_at, place_of_nth}
-use Rattle.magnetic_groups.specs.Marks.{AreWithin, mark_at, marked_below, unmarked}
-use Rattle.magnetic_groups.specs.Sets.{HasForm, In, IsWithin}
+use Rattle.magnetic_groups.specs.Prelude.{AreWithin, mark_at, marked_below, unmarked, HasForm, In, IsWithin}
 use Rattle.magnetic_groups.proofs.Marked.{Below, contains_told, contains_of, marked_next, marked_past}
 
 -- ---- how many operations are marked

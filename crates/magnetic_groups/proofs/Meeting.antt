@@ -2,22 +2,15 @@
 --   inverse_common    the products that carry an element
 --   pair_told    the test of one element
 --   IsMeeting    the elements before place n that are met are marked
-use Rattle.std.proofs.Common.{◌≡◌, ℕ, ◌+◌, ◌<◌, ◌≤◌, Bool, true, false, List, length, refl, ap, sym, ◌∙◌, arith, subst, ◌⊎◌, inl, inr, lit<}
+use Rattle.list_laws.proofs.Kit.{◌≡◌, ℕ, ◌+◌, ◌<◌, ◌≤◌, Bool, true, false, List, length, refl, ap, sym, ◌∙◌, arith, subst, ◌⊎◌, inl, inr, lit<, length-set}
+use Rattle.list_laws.proofs.Kit.{cases_lt, false≢true}
 use Rattle.std.specs.Prelude.{Contains, ◌↔◌, IsTrue, slice_index_or, set, replicate, Some}
-use Rattle.std.proofs.lemmas.List.{length-set}
-use Rattle.std.proofs.lemmas.Bool.{cases_lt, false≢true}
-use Rattle.tensor_defs.specs.Operation.{Operation, IsProduct, identity}
-use Rattle.tensor_defs.specs.OperationOrder.{comes_before}
-use Rattle.tensor_defs.specs.Lists.{IsListing}
-use Rattle.tensor_defs.specs.Frames.{IsPlain, IsHexagonal, HaveCommonFrame}
-use Rattle.tensor_defs.specs.States.{InPairGroup}
-use Rattle.tensor_laws.proofs.Products.{product_unique}
-use Rattle.tensor_laws.proofs.Associativity.{product_assoc, product_assoc_back}
+use Rattle.tensor_defs.specs.Prelude.{Operation, IsProduct, identity, comes_before, IsListing, IsPlain, IsHexagonal, HaveCommonFrame, InPairGroup}
+use Rattle.tensor_laws.proofs.Prelude.{product_unique, product_assoc, product_assoc_back}
 use Rattle.op_matrix.specs.Table.{nth_operation, place}
 use Rattle.op_matrix.proofs.Order.{placed}
 use Rattle.op_matrix.proofs.Listed.{plain_one, hex_one, OneTimes}
-use Rattle.magnetic_groups.specs.Marks.{mark_at, marked_below, Reached}
-use Rattle.magnetic_groups.specs.Sets.{FitsFrame, HaveFrame, In, IsGroup}
+use Rattle.magnetic_groups.specs.Prelude.{mark_at, marked_below, Reached, FitsFrame, HaveFrame, In, IsGroup}
 use Rattle.magnetic_groups.proofs.Inverses.{closed_inverse}
 use Rattle.magnetic_groups.proofs.Marked.{contains_told, contains_of, marked_rising, marked_first}
 use Rattle.magnetic_groups.proofs.Members.{member_framed}

@@ -1,18 +1,11 @@
 -- What is read off a group: places and frames.
-use Rattle.std.proofs.Common.{◌≡◌, ℕ, ◌<◌, ◌≤◌, Bool, true, false, List, length, ap, sym, ◌∙◌, subst}
-use Rattle.std.proofs.Common.{inl, inr}
-use Rattle.std.specs.Prelude.{slice_index_or, slice_get, Option, Some, Contains, ◌↔◌, IsTrue}
-use Rattle.std.specs.Prelude.{nat_eq}
-use Rattle.std.proofs.lemmas.List.Elements.{Contains-get_or}
-use Rattle.std.proofs.lemmas.Option.{slice_get-get_or}
-use Rattle.std.proofs.lemmas.Bool.{eqb-true, false≢true}
+use Rattle.list_laws.proofs.Kit.{◌≡◌, ℕ, ◌<◌, ◌≤◌, Bool, true, false, List, length, ap, sym, ◌∙◌, subst, inl, inr, Contains-get_or, slice_get-get_or}
+use Rattle.list_laws.proofs.Kit.{eqb-true, false≢true}
+use Rattle.std.specs.Prelude.{slice_index_or, slice_get, Option, Some, Contains, ◌↔◌, IsTrue, nat_eq}
 use Rattle.tensor_defs.specs.declared.OpKind.TheVariants.{Three}
 use Rattle.tensor_defs.specs.declared.Direction.TheVariants.{Z}
-use Rattle.tensor_defs.specs.Symbols.{operation_of}
-use Rattle.tensor_defs.specs.Operation.{Operation}
-use Rattle.tensor_defs.specs.Frames.{IsPlain, IsHexagonal, AllOf, IsThe, IsFramed}
-use Rattle.op_matrix.specs.Table.{place}
-use Rattle.op_matrix.specs.Laws.{HasFrame}
+use Rattle.tensor_defs.specs.Prelude.{operation_of, Operation, IsPlain, IsHexagonal, AllOf, IsThe, IsFramed}
+use Rattle.op_matrix.specs.Prelude.{place, HasFrame}
 use Rattle.op_matrix.proofs.Order.{same_place}
 use Rattle.magnetic_groups.specs.Sets.{In, HaveFrame, IsKept}
 use Rattle.magnetic_groups.proofs.Marked.{marked_length}

@@ -4,20 +4,17 @@
 --   reached_spanned, reached_more, times_more, grows_refl, grows_trans, added_grows ..    one more operation
 --   IsReaching, reaching_none, reaching_more    the products of one element with all generators
 --   no_mark, closed_none, closed_more, work_falls, reached_all, held_at ..    the whole closing
-use Rattle.std.proofs.Common.{◌≡◌, ℕ, zero, suc, ◌+◌, ◌-◌, ◌*◌, ◌<◌, ◌≤◌, ◌≢◌, Bool, true, false, List, [], ◌∷◌, ◌++◌}
-use Rattle.std.proofs.Common.{length, refl, ap, sym, ◌∙◌, arith, subst, ◌⊎◌, inl, inr}
+use Rattle.list_laws.proofs.Kit.{◌≡◌, ℕ, zero, suc, ◌+◌, ◌-◌, ◌*◌, ◌<◌, ◌≤◌, ◌≢◌, Bool, true, false, List, [], ◌∷◌, ◌++◌, length, refl, ap, sym, ◌∙◌, arith}
+use Rattle.list_laws.proofs.Kit.{subst, ◌⊎◌, inl, inr, length-set, get_or_append_left, get_or_push, Contains-append_left, Contains-push, Contains-get_or}
+use Rattle.list_laws.proofs.Kit.{Contains-push_cases, cases_lt}
 use Rattle.std.specs.Prelude.{replicate, set, slice_index_or, Contains}
-use Rattle.std.proofs.lemmas.List.{length-set, get_or_append_left, get_or_push, length-append}
-use Rattle.std.proofs.lemmas.List.Elements.{Contains-append_left, Contains-push, Contains-get_or, Contains-push_cases}
-use Rattle.std.proofs.lemmas.Bool.{cases_lt}
-use Rattle.tensor_defs.specs.Operation.{Operation, IsProduct, identity}
-use Rattle.tensor_defs.specs.Frames.{IsPlain, IsHexagonal, HaveCommonFrame}
+use Rattle.std.proofs.lemmas.List.{length-append}
+use Rattle.tensor_defs.specs.Prelude.{Operation, IsProduct, identity, IsPlain, IsHexagonal, HaveCommonFrame}
 use Rattle.tensor_laws.proofs.Products.{generated_within}
 use Rattle.op_matrix.specs.Table.{nth_operation, place}
 use Rattle.op_matrix.proofs.Facts.{place_of_nth}
 use Rattle.op_matrix.proofs.Listed.{plain_product, hex_product, plain_identity, hex_identity}
-use Rattle.magnetic_groups.specs.Marks.{mark_at, Reached, Added, unmarked, IsClosed, IsClosing, Grows, TimesReached, IsDone}
-use Rattle.magnetic_groups.specs.Sets.{HaveFrame, Spanned}
+use Rattle.magnetic_groups.specs.Prelude.{mark_at, Reached, Added, unmarked, IsClosed, IsClosing, Grows, TimesReached, IsDone, HaveFrame, Spanned}
 
 -- ---- marks
 pub mark_inside : (m : List Bool) (k : ℕ) → mark_at m k ≡ true → k < length m

@@ -6,26 +6,18 @@
 --   only_identity    the listing of the span of no generators
 --   Joined, joined_frame, each_map, joined_span    one operation more
 --   outside_at, inside_more, inside_all, fits_frame, joined_told, refused, accepted    the least place outside
-use Rattle.std.proofs.Common.{◌≡◌, ℕ, ◌+◌, ◌<◌, ◌≤◌, Bool, true, false, List, [], ◌∷◌, ◌++◌}
-use Rattle.std.proofs.Common.{length, refl, ap, sym, ◌∙◌, arith, subst, lit<, ◌⊎◌, inl, inr}
-use Rattle.std.proofs.lemmas.List.{get_or_default}
+use Rattle.list_laws.proofs.Kit.{◌≡◌, ℕ, ◌+◌, ◌<◌, ◌≤◌, Bool, true, false, List, [], ◌∷◌, ◌++◌, length, refl, ap, sym, ◌∙◌, arith, subst, lit<, ◌⊎◌, inl, inr}
+use Rattle.list_laws.proofs.Kit.{get_or_default, Contains-append_left, Contains-push, Contains-push_cases, cases_lt, false≢true}
 use Rattle.std.specs.Prelude.{slice_index_or, Some, Contains, ◌↔◌, IsTrue, IfOk, Result, Ok, Err}
-use Rattle.std.proofs.lemmas.List.Elements.{Contains-append_left, Contains-push, Contains-push_cases}
-use Rattle.std.proofs.lemmas.Bool.{cases_lt, false≢true}
 use Rattle.list_laws.proofs.Lists.{none_held}
-use Rattle.tensor_defs.specs.Operation.{Operation, IsProduct, identity}
-use Rattle.tensor_defs.specs.Lists.{Each, IsListing}
-use Rattle.tensor_defs.specs.OperationOrder.{comes_before}
-use Rattle.tensor_defs.specs.Group.{IsProductOf, Generated}
-use Rattle.tensor_defs.specs.Frames.{IsPlain, IsHexagonal, HaveCommonFrame}
-use Rattle.tensor_laws.proofs.Products.{product_unique, generated_within}
-use Rattle.tensor_laws.proofs.Associativity.{product_assoc}
+use Rattle.tensor_defs.specs.Prelude.{Operation, IsProduct, identity, Each, IsListing, comes_before, IsProductOf, Generated, IsPlain, IsHexagonal}
+use Rattle.tensor_defs.specs.Prelude.{HaveCommonFrame}
+use Rattle.tensor_laws.proofs.Prelude.{product_unique, generated_within, product_assoc}
 use Rattle.op_matrix.specs.Table.{nth_operation, operation_at, place, matrix_place}
 use Rattle.op_matrix.proofs.Facts.{place_of_nth}
 use Rattle.op_matrix.proofs.Listed.{plain_product, hex_product, plain_one, hex_one, OneTimes}
-use Rattle.magnetic_groups.specs.Marks.{mark_at, IsClosed, Reached, marked_below}
+use Rattle.magnetic_groups.specs.Prelude.{mark_at, IsClosed, Reached, marked_below, HaveFrame, FitsFrame, Spanned, IsKept, IsFirstOutside, IsWithin}
 use Rattle.magnetic_groups.proofs.Inverses.{closed_inverse}
-use Rattle.magnetic_groups.specs.Sets.{HaveFrame, FitsFrame, Spanned, IsKept, IsFirstOutside, IsWithin}
 use Rattle.magnetic_groups.proofs.Reaching.{spanned_times, spanned_one, spanned_framed, spanned_plain}
 use Rattle.magnetic_groups.proofs.Reaching.{spanned_hex, span_frame, reached_spanned, reached_all}
 use Rattle.magnetic_groups.proofs.Marked.{marked_first, contains_told, contains_of, marked_rising}

@@ -4,30 +4,21 @@
 --   grey_tail, tail_is, reversal_plain    time reversal
 --   SymbolFrame, symbol_frame, generators_framed, group_framed    the generators of a symbol
 --   built, built_framed, built_refused, built_accepted    what the group built for a symbol is
-use Rattle.std.proofs.Common.{[], ◌≡◌, ℕ, ◌/◌, ◌%◌, Bool, true, false, List, ◌∷◌, ◌++◌, refl}
-use Rattle.std.proofs.Common.{sym, ◌∙◌, arith, subst, ◌⊎◌, inl, inr}
+use Rattle.list_laws.proofs.Kit.{[], ◌≡◌, ℕ, ◌/◌, ◌%◌, Bool, true, false, List, ◌∷◌, ◌++◌, refl, sym, ◌∙◌, arith, subst, ◌⊎◌, inl, inr, Contains-append_left}
+use Rattle.list_laws.proofs.Kit.{Contains-append_cases, Contains-push_cases, ltb-true, false≢true}
 use Rattle.std.specs.Prelude.{◌==◌, nat_lt, Option, Some, None, Contains, IsTrue, ◌↔◌, if◌then◌else◌}
-use Rattle.std.proofs.lemmas.List.Elements.{Contains-append_left, Contains-append_cases, Contains-push_cases}
-use Rattle.std.proofs.lemmas.Bool.{ltb-true, false≢true}
-use Rattle.list_laws.proofs.Lists.{none_held}
-use Rattle.list_laws.proofs.Below.{all_below, below_told}
-use Rattle.list_laws.proofs.Tests.{either_told, implied, both}
+use Rattle.list_laws.proofs.Prelude.{none_held, all_below, below_told, either_told, implied, both}
 use mathlib.Core.Bool.{xor}
 use Rattle.tensor_defs.specs.declared.OpKind.{OpKind}
 use Rattle.tensor_defs.specs.declared.Direction.{Direction}
 use Rattle.tensor_defs.specs.declared.Setting.{Setting}
 use Rattle.tensor_defs.specs.declared.Setting.TheVariants.{Default, X, Z, XY, D, P}
-use Rattle.tensor_defs.specs.Symbols.{operation_of, Operator, GroupSymbol, IsGroupSymbol, parent_operators}
-use Rattle.tensor_defs.specs.Symbols.{takes_setting, turned_to, listed, operations_of, generators}
-use Rattle.tensor_defs.specs.Operation.{Axis, x1, x2, x3, Operation, Row, in_row, IsProduct, reversal}
-use Rattle.tensor_defs.specs.Group.{InGroup, IsAccepted}
-use Rattle.tensor_defs.specs.Lists.{IsListing}
-use Rattle.tensor_defs.specs.Frames.{IsPlain, IsHexagonal, AllOf, SameMatrix, IsFramed}
-use Rattle.tensor_defs.specs.OperationOrder.{same_entry, comes_before}
+use Rattle.tensor_defs.specs.Prelude.{operation_of, Operator, GroupSymbol, IsGroupSymbol, parent_operators, takes_setting, turned_to, listed, operations_of}
+use Rattle.tensor_defs.specs.Prelude.{generators, Axis, x1, x2, x3, Operation, Row, in_row, IsProduct, reversal, InGroup, IsAccepted, IsListing, IsPlain}
+use Rattle.tensor_defs.specs.Prelude.{IsHexagonal, AllOf, SameMatrix, IsFramed, same_entry, comes_before}
 use Rattle.tensor_laws.specs.Laws.{three_z}
 use Rattle.tensor_laws.proofs.Products.{product_unique, product_test, product_tested}
-use Rattle.op_matrix.specs.Table.{operation_at, matrix_place, same_row, same_matrix}
-use Rattle.op_matrix.specs.View.{hex_frame}
+use Rattle.op_matrix.specs.Prelude.{operation_at, matrix_place, same_row, same_matrix, hex_frame}
 use Rattle.op_matrix.proofs.Frames.{also, either, three_told, same_entry_true, plain_test, plain_told}
 use Rattle.op_matrix.proofs.Products.{product_code, frame_code}
 use Rattle.op_matrix.proofs.Hexagonal.{implies, hex_told}

@@ -1,20 +1,16 @@
 -- Going through the elements of a group, and taking those that aren't products of the ones taken before.
 --   kept_all, kept_by, generators_told, all_meant, held_meant    the generators that a group holds
 --   takes_past, takes_more, IsTaking, taking_none, taking_past, taking_more ..    one operation more
-use Rattle.std.proofs.Common.{◌≡◌, ℕ, ◌+◌, ◌<◌, ◌≤◌, Bool, true, false, List, [], ◌∷◌, ◌++◌}
-use Rattle.std.proofs.Common.{length, refl, ap, sym, ◌∙◌, arith, subst, ◌⊎◌, inl, inr, take}
+use Rattle.list_laws.proofs.Kit.{◌≡◌, ℕ, ◌+◌, ◌<◌, ◌≤◌, Bool, true, false, List, [], ◌∷◌, ◌++◌, length, refl, ap, sym, ◌∙◌, arith, subst, ◌⊎◌, inl, inr, take}
+use Rattle.list_laws.proofs.Kit.{take_more, take_all, get_or_default, Contains-push, Contains-push_cases, Contains-get_or, cases_lt, eqb-true, false≢true}
 use Rattle.std.specs.Prelude.{slice_index_or, Contains, ◌↔◌, nat_eq}
-use Rattle.std.proofs.lemmas.List.{take_more, take_all, get_or_default}
-use Rattle.std.proofs.lemmas.List.Elements.{Contains-push, Contains-push_cases, Contains-get_or}
-use Rattle.std.proofs.lemmas.Bool.{cases_lt, eqb-true, false≢true}
 use Rattle.list_laws.proofs.Lists.{none_held}
 use Rattle.tensor_defs.specs.Operation.{Operation}
 use Rattle.tensor_laws.proofs.Products.{generated_within}
 use Rattle.op_matrix.specs.Table.{place}
 use Rattle.op_matrix.proofs.Order.{placed}
-use Rattle.magnetic_groups.specs.Marks.{mark_at, marked_below, Reached, Grows}
-use Rattle.magnetic_groups.specs.Sets.{generators_of, HaveFrame, Spanned, IsGroup, IsKept}
-use Rattle.magnetic_groups.specs.Greedy.{IsSpan, TakesFrom, IsGreedy}
+use Rattle.magnetic_groups.specs.Prelude.{mark_at, marked_below, Reached, Grows, HaveFrame, Spanned, IsGroup, IsKept, IsSpan, TakesFrom, IsGreedy}
+use Rattle.magnetic_groups.specs.Sets.{generators_of}
 use Rattle.magnetic_groups.proofs.Members.{member_framed}
 use Rattle.magnetic_groups.proofs.Reaching.{reached_spanned, reached_more, reached_all, unreached}
 use Rattle.magnetic_groups.proofs.Spans.{span_member}

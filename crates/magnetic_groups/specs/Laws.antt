@@ -1,8 +1,6 @@
 -- Laws of the groups of symbols.
 --   AcceptedAreFramed   the group of each accepted symbol is framed
-use Rattle.tensor_defs.specs.Symbols.{GroupSymbol, IsGroupSymbol}
-use Rattle.tensor_defs.specs.Group.{InGroup, IsAccepted}
-use Rattle.tensor_defs.specs.Frames.{IsFramed}
+use Rattle.tensor_defs.specs.Prelude.{GroupSymbol, IsGroupSymbol, InGroup, IsAccepted, IsFramed}
 
 abbrev pub AcceptedAreFramed : Type 0
 AcceptedAreFramed = (t : GroupSymbol) → IsGroupSymbol t → IsAccepted t → IsFramed (InGroup t)

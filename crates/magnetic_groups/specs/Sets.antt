@@ -9,13 +9,8 @@
 --   TellsOutside   the least place of a member that isn't in the other list, or that there is none
 --   TellsPlace     the place of a member, or that it is none
 -- Source: the definition of a group.
-use Rattle.std.specs.Prelude.{◌≡◌, ℕ, ◌<◌, slice_index_or, slice_get, Option, Some, MatchOption, Bool, List, [], ◌∷◌, length}
-use Rattle.std.specs.Prelude.{Contains, ◌⊎◌, ◌↔◌}
-use Rattle.tensor_defs.specs.Lists.{IsRising}
-use Rattle.tensor_defs.specs.Operation.{Operation, IsProduct, identity}
-use Rattle.tensor_defs.specs.OperationOrder.{comes_before}
-use Rattle.tensor_defs.specs.Group.{Generated, IsBelow}
-use Rattle.tensor_defs.specs.Frames.{IsPlain, IsHexagonal, AllOf}
+use Rattle.std.specs.Prelude.{◌≡◌, ℕ, ◌<◌, slice_index_or, slice_get, Option, Some, MatchOption, Bool, List, [], ◌∷◌, length, Contains, ◌⊎◌, ◌↔◌}
+use Rattle.tensor_defs.specs.Prelude.{IsRising, Operation, IsProduct, identity, comes_before, Generated, IsBelow, IsPlain, IsHexagonal, AllOf}
 use Rattle.op_matrix.specs.Table.{operation_at}
 use Rattle.magnetic_groups.specs.Marks.{marked_below}
 

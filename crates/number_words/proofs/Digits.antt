@@ -1,12 +1,9 @@
 -- The digits at the front of a text.
 --   IsFront         the first bytes are digits, and their value
 --   front_none, front_more, front_below, front_room, front_run    the digits read so far, and all
-use Rattle.std.proofs.Common.{◌≡◌, ℕ, ◌+◌, ◌*◌, ◌<◌, ◌≤◌, ◌^◌, List, length, get_or, take, refl, sym, ap, subst, ◌∙◌, arith}
-use Rattle.std.proofs.Math.Nat.{pow-le-pow_right}
+use Rattle.list_laws.proofs.Kit.{◌≡◌, ℕ, ◌+◌, ◌*◌, ◌<◌, ◌≤◌, ◌^◌, List, length, get_or, take, refl, sym, ap, subst, ◌∙◌, arith, pow-le-pow_right, digits_more}
+use Rattle.list_laws.proofs.Kit.{digits_value-lt, digits_value_more, digit_value, AllDigits, digits_value}
 use Rattle.std.proofs.lemmas.List.{length-take}
-use Rattle.std.proofs.lemmas.Int.Digits.{digits_more, digits_value-lt, digits_value_more}
-use Rattle.std.specs.Char.{digit_value}
-use Rattle.std.specs.Str.Parse.{AllDigits, digits_value}
 use Rattle.number_words.specs.Runs.{IsRun}
 
 pub record IsFront (text : List ℕ) (value count : ℕ) : Type 0 where

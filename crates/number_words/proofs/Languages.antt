@@ -5,12 +5,11 @@
 --   byte_step, step_faulty, no_star, no_sign    the byte behind a magnitude
 --   split_at, front_spelled, whole_front    the text of what was read
 --   minus_faulty, minus_read, plus_read    with a - before the text, or without
-use Rattle.std.proofs.Common.{◌≡◌, ◌≢◌, ℕ, zero, suc, ◌+◌, ◌-◌, ◌<◌, ◌≤◌, ◌⊎◌, inl, inr, List, [], ◌∷◌, ◌++◌, length, get_or, take, drop, refl, sym, ap, subst, ◌∙◌, arith, length-drop}
-use Rattle.std.proofs.lemmas.Bool.{cases_lt}
-use Rattle.std.proofs.lemmas.List.{append-nil, length-take, take-append-drop, drop_more}
-use Rattle.std.specs.Char.{digit_value}
+use Rattle.list_laws.proofs.Kit.{◌≡◌, ◌≢◌, ℕ, zero, suc, ◌+◌, ◌-◌, ◌<◌, ◌≤◌, ◌⊎◌, inl, inr, List, [], ◌∷◌, ◌++◌, length, get_or, take, drop, refl, sym, ap}
+use Rattle.list_laws.proofs.Kit.{subst, ◌∙◌, arith, cases_lt, drop_more, digit_value, digits_value}
+use Rattle.std.proofs.Common.{length-drop}
+use Rattle.std.proofs.lemmas.List.{append-nil, length-take, take-append-drop}
 use Rattle.std.specs.Prelude.{Result, Ok, Err}
-use Rattle.std.specs.Str.Parse.{digits_value}
 use Rattle.list_laws.proofs.Lists.{heads, tails, none_some}
 use Rattle.tensor_defs.specs.Number.{Number, Root3, mul, root_3, add}
 use Rattle.tensor_defs.specs.declared.Sign.{Sign}

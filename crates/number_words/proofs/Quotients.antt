@@ -1,12 +1,10 @@
 -- Quotients of numbers of at most 18 digits.
 --   new_held        such a quotient is held
 --   wide            such a number as a signed one
-use Rattle.std.proofs.Common.{◌≡◌, ℕ, ◌<◌, ◌^◌, ap, arith, refl, Result, Ok, Err}
-use Rattle.std.specs.Result.{IsOk}
+use Rattle.list_laws.proofs.Kit.{◌≡◌, ℕ, ◌<◌, ◌^◌, ap, arith, refl, Result, Ok, Err, IsOk, to_z_pos}
 use lib.IntN.{pos}
 use mir.Syntax.{w64}
 use mir.Val.{to_z}
-use Rattle.std.proofs.lemmas.Int.{to_z_pos}
 use Rattle.std.specs.Prelude.{unsigned_abs}
 use Rattle.tensor_defs.specs.Number.{Fraction}
 use Rattle.exact_frac.specs.Exact.{IsNew}

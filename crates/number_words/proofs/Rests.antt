@@ -3,14 +3,12 @@
 --   IsBehind        no digit and no / begins what stands behind a magnitude
 --   magnitude_ends, magnitude_faulty    behind the magnitude that was read, or where there is none
 --   spelled_whole, split_told    magnitudes by their texts
-use Rattle.std.proofs.Common.{◌≡◌, ℕ, zero, suc, ◌+◌, ◌-◌, ◌*◌, ◌<◌, ◌≤◌, ◌⊎◌, inl, inr, List, [], ◌∷◌, ◌++◌, length, get_or, take, drop, min, refl, sym, ap, subst, ◌∙◌, arith, lit<, append_assoc, length-drop}
-use Rattle.std.proofs.lemmas.Bool.{cases_lt}
-use Rattle.std.proofs.lemmas.List.{get_or-take, length-take, drop_more, get_or-drop}
-use Rattle.std.proofs.Math.ListN.{drop_of_length-le}
+use Rattle.list_laws.proofs.Kit.{◌≡◌, ℕ, zero, suc, ◌+◌, ◌-◌, ◌*◌, ◌<◌, ◌≤◌, ◌⊎◌, inl, inr, List, [], ◌∷◌, ◌++◌, length, get_or, take, drop, min, refl, sym}
+use Rattle.list_laws.proofs.Kit.{ap, subst, ◌∙◌, arith, lit<, cases_lt, get_or-take, drop_more, get_or-drop, drop_of_length-le, digits_value_more}
+use Rattle.list_laws.proofs.Kit.{digit_value, AllDigits, digits_value, digits_value_after}
+use Rattle.std.proofs.Common.{append_assoc, length-drop}
+use Rattle.std.proofs.lemmas.List.{length-take}
 use Rattle.list_laws.proofs.Lists.{heads, none_some}
-use Rattle.std.proofs.lemmas.Int.Digits.{digits_value_more}
-use Rattle.std.specs.Char.{digit_value}
-use Rattle.std.specs.Str.Parse.{AllDigits, digits_value, digits_value_after}
 use Rattle.text_defs.specs.Languages.{IsFaulty}
 use Rattle.text_defs.specs.declared.Fault.{Fault}
 use Rattle.fault_places.proofs.Places.{Through, Through-step, Through-stuck, Through-short, Through-near}

@@ -1,8 +1,7 @@
 -- The determinant of an operation is 1 or -1.
 use Rattle.std.proofs.Common.{◌≡◌, ℕ, ◌/◌, ◌%◌, ◌<◌, Bool, true, false, nat_eq, ◌⊎◌, inl, inr, refl, sym, arith}
 use lib.IntN.{pos, negsuc}
-use Rattle.tensor_defs.specs.Number.{whole}
-use Rattle.tensor_defs.specs.Operation.{Operation, value, determinant}
+use Rattle.tensor_defs.specs.Prelude.{whole, Operation, value, determinant}
 use Rattle.op_matrix.specs.Table.{nth_operation}
 use Rattle.op_matrix.proofs.Facts.{det_at, negative_code}
 

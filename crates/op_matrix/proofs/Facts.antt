@@ -3,23 +3,16 @@
 --   inverse_code, inverse_below, inverse_at    inverses
 --   entry_told    entries
 --   bit, before_at, half_below, before_places, place_of_nth, nth_at ..    the order
-use Rattle.std.proofs.Common.{[], ◌≡◌, ◌≢◌, ℕ, ◌+◌, ◌*◌, ◌/◌, ◌%◌, ◌<◌, Bool, true, false, refl}
-use Rattle.std.proofs.Common.{ap, sym, ◌∙◌, arith, subst, lit<, cond}
+use Rattle.list_laws.proofs.Kit.{[], ◌≡◌, ◌≢◌, ℕ, ◌+◌, ◌*◌, ◌/◌, ◌%◌, ◌<◌, Bool, true, false, refl, ap, sym, ◌∙◌, arith, subst, lit<, cond, slice_index_or}
+use Rattle.list_laws.proofs.Kit.{nat_tests}
 use Rattle.std.specs.Prelude.{nat_eq, nat_lt, slice_index}
-use Rattle.std.specs.List.{slice_index_or}
 use mathlib.Core.Bool.{xor}
 use lib.IntN.{ℤ, pos, negsuc, ◌*ℤ◌}
-use Rattle.std.proofs.lemmas.Bool.Decides.{nat_tests}
-use Rattle.list_laws.proofs.Below.{all_below, below_told, below_told_2}
-use Rattle.list_laws.proofs.Tests.{same_bool, same_bool_true, xor_self, both}
-use Rattle.tensor_defs.specs.Number.{Triple, add_triple, mul_triple, number_of, same_numbers, add, mul}
-use Rattle.tensor_defs.specs.Number.{whole, half_of}
-use Rattle.tensor_defs.specs.Operation.{Axis, x1, x2, x3, Operation, entry, value, determinant, IsProduct, identity}
-use Rattle.tensor_defs.specs.OperationOrder.{same_int, same_entry, comes_before}
+use Rattle.list_laws.proofs.Prelude.{all_below, below_told, below_told_2, same_bool, same_bool_true, xor_self, both}
+use Rattle.tensor_defs.specs.Prelude.{Triple, add_triple, mul_triple, number_of, same_numbers, add, mul, whole, half_of, Axis, x1, x2, x3, Operation, entry}
+use Rattle.tensor_defs.specs.Prelude.{value, determinant, IsProduct, identity, same_int, same_entry, comes_before}
 use Rattle.tensor_laws.proofs.Products.{product_test, product_tested, same_int_true}
-use Rattle.op_matrix.specs.Table.{operation_at, nth_operation, place}
-use Rattle.op_matrix.specs.Places.{place_at, primed_at}
-use Rattle.op_matrix.specs.View.{entry_of, axis}
+use Rattle.op_matrix.specs.Prelude.{operation_at, nth_operation, place, place_at, primed_at, entry_of, axis}
 use Rattle.op_matrix.specs.declared.tables.TheConstants.{ENTRIES, INVERSES, NEGATIVE}
 use Rattle.op_matrix.specs.declared.entry.Entry as code
 use Rattle.op_matrix.specs.declared.entry.Entry.TheVariants.{One}

@@ -3,16 +3,13 @@
 --   either, also, three, three_told    tests of entries
 --   plain_test, plain_of, plain_told    plain
 --   diagonal_test, x1_x2, x1_x3, x2_x3, diagonal_of, diagonal_told    diagonal
-use Rattle.std.proofs.Common.{◌≡◌, ◌≢◌, Bool, true, false, refl, ap, sym}
-use Rattle.std.proofs.Common.{subst, cond, ◌⊎◌, inl, inr}
-use Rattle.std.proofs.lemmas.Bool.{eq-eqb, true≢false}
+use Rattle.list_laws.proofs.Kit.{◌≡◌, ◌≢◌, Bool, true, false, refl, ap, sym, subst, cond, ◌⊎◌, inl, inr, true≢false}
+use Rattle.std.proofs.lemmas.Bool.{eq-eqb}
 use Rattle.list_laws.proofs.Tests.{either_left, either_right, either_told, both_of, both}
 use Rattle.tensor_laws.proofs.Products.{same_int_true}
 use lib.IntN.{ℤ, pos, negsuc}
-use Rattle.tensor_defs.specs.Operation.{Axis, x1, x2, x3, Entry, Operation, entry, one, nought}
-use Rattle.tensor_defs.specs.Operation.{minus_one}
-use Rattle.tensor_defs.specs.OperationOrder.{same_int, same_entry}
-use Rattle.tensor_defs.specs.Frames.{IsUnit, OneUnit, IsPlain, IsDiagonal}
+use Rattle.tensor_defs.specs.Prelude.{Axis, x1, x2, x3, Entry, Operation, entry, one, nought, minus_one, same_int, same_entry, IsUnit, OneUnit, IsPlain}
+use Rattle.tensor_defs.specs.Prelude.{IsDiagonal}
 
 -- ---- the test of sameness
 same_int_refl : (a : ℤ) → same_int a a ≡ true

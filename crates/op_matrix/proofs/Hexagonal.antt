@@ -5,26 +5,18 @@
 --   place_same, hex_of    the place is told by the entries
 --   hex_told    each hexagonal frame's matrix is a power of 6z times a diagonal one
 --   plain_at_of, plain_at_told, diagonal_at_of, diagonal_at_told, common_of    plain and diagonal ones
-use Rattle.std.proofs.Common.{[], ◌≡◌, ◌≢◌, ℕ, ◌<◌, Bool, true, false, List, ◌∷◌, refl, ap, sym}
-use Rattle.std.proofs.Common.{◌∙◌, subst, lit<, cond, inl, inr}
+use Rattle.list_laws.proofs.Kit.{[], ◌≡◌, ◌≢◌, ℕ, ◌<◌, Bool, true, false, List, ◌∷◌, refl, ap, sym, ◌∙◌, subst, lit<, cond, inl, inr, ltb-true, eqb-true}
 use Rattle.std.specs.Prelude.{nat_eq, nat_lt, Some}
 use mathlib.Core.Bool.{xor}
-use Rattle.std.proofs.lemmas.Bool.{ltb-true, eqb-true}
-use Rattle.list_laws.proofs.Below.{all_below, below_told}
-use Rattle.list_laws.proofs.Tests.{either_told, both_of, same_bool, same_bool_true, implied, both}
-use Rattle.tensor_defs.specs.Operation.{Axis, x1, x2, x3, Entry, Operation, entry, IsProduct, identity}
-use Rattle.tensor_defs.specs.Operation.{matrix, nought}
+use Rattle.list_laws.proofs.Prelude.{all_below, below_told, either_told, both_of, same_bool, same_bool_true, implied, both}
+use Rattle.tensor_defs.specs.Prelude.{Axis, x1, x2, x3, Entry, Operation, entry, IsProduct, identity, matrix, nought, operation_of, Generated, IsThe, IsUnit}
+use Rattle.tensor_defs.specs.Prelude.{IsPlain, IsDiagonal, IsHexagonal, SameMatrix, HaveCommonFrame}
 use Rattle.tensor_defs.specs.declared.OpKind.TheVariants.{Six}
 use Rattle.tensor_defs.specs.declared.Direction.TheVariants.{Z}
-use Rattle.tensor_defs.specs.Symbols.{operation_of}
-use Rattle.tensor_defs.specs.Group.{Generated}
-use Rattle.tensor_defs.specs.Frames.{IsThe, IsUnit, IsPlain, IsDiagonal, IsHexagonal, SameMatrix, HaveCommonFrame}
 use Rattle.tensor_laws.proofs.Products.{product_unique, generated_within, product_tested}
-use Rattle.op_matrix.specs.Table.{operation_at, matrix_place}
-use Rattle.op_matrix.specs.Places.{place_at}
+use Rattle.op_matrix.specs.Prelude.{operation_at, matrix_place, place_at, hex_frame, plain_frame, both_frame}
 use Rattle.op_matrix.specs.declared.entry.Frame.{Frame}
 use Rattle.op_matrix.specs.declared.entry.Frame.TheVariants.{Plain, Hexagonal, Both}
-use Rattle.op_matrix.specs.View.{hex_frame, plain_frame, both_frame}
 use Rattle.op_matrix.proofs.Frames.{x1_x2, x1_x3, x2_x3, also, either, plain_test, plain_of, plain_told}
 use Rattle.op_matrix.proofs.Frames.{diagonal_test, diagonal_of, diagonal_told}
 use Rattle.op_matrix.proofs.Products.{product_code, frame_code, common, product_at, product_code_below}

@@ -4,19 +4,14 @@
 --   hex_listed    hexagonal ones
 --   plain_product, hex_product, Placed, plain_placed, hex_placed, plain_identity, hex_identity    products
 --   zero_plain, OneTimes, plain_one, hex_one    the identity, and inverses
-use Rattle.std.proofs.Common.{◌≡◌, ℕ, zero, suc, ◌<◌, Bool, true, false, refl, sym}
-use Rattle.std.proofs.Common.{◌∙◌, subst, lit<, inl, inr}
+use Rattle.list_laws.proofs.Kit.{◌≡◌, ℕ, zero, suc, ◌<◌, Bool, true, false, refl, sym, ◌∙◌, subst, lit<, inl, inr, ltb-true}
 use Rattle.std.specs.Prelude.{nat_lt}
-use Rattle.std.proofs.lemmas.Bool.{ltb-true}
-use Rattle.list_laws.proofs.Below.{all_below, below_told, below_told_2}
-use Rattle.list_laws.proofs.Tests.{implied}
+use Rattle.list_laws.proofs.Prelude.{all_below, below_told, below_told_2, implied}
 use mathlib.Core.Bool.{xor}
-use Rattle.tensor_defs.specs.Operation.{x1, x2, x3, Entry, Row, Operation, IsProduct, identity, one}
-use Rattle.tensor_defs.specs.Operation.{nought, minus_one}
-use Rattle.tensor_defs.specs.Frames.{OneUnit, IsPlain, IsHexagonal, SameMatrix}
+use Rattle.tensor_defs.specs.Prelude.{x1, x2, x3, Entry, Row, Operation, IsProduct, identity, one, nought, minus_one, OneUnit, IsPlain, IsHexagonal}
+use Rattle.tensor_defs.specs.Prelude.{SameMatrix}
 use Rattle.tensor_laws.proofs.Groups.{one_times, times_one}
-use Rattle.op_matrix.specs.Table.{operation_at, nth_operation, place, matrix_place, same_row, same_matrix}
-use Rattle.op_matrix.specs.View.{hex_frame, plain_frame}
+use Rattle.op_matrix.specs.Prelude.{operation_at, nth_operation, place, matrix_place, same_row, same_matrix, hex_frame, plain_frame}
 use Rattle.op_matrix.specs.declared.entry.Frame.{Frame}
 use Rattle.op_matrix.proofs.Frames.{also, three_told, same_entry_true, plain_test, plain_of}
 use Rattle.op_matrix.proofs.Products.{product_code, frame_code, product_at, product_code_below}

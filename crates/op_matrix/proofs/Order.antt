@@ -2,19 +2,13 @@
 --   before_known, places_rise, rise_before, same_place, identity_framed, order_is_strict_lem    the order
 --   nth_framed, are_listed_lem    the places
 --   frames_are_closed_lem, plain_closed, hex_closed, inverse_plain, inverse_hex    products and inverses
-use Rattle.std.proofs.Common.{◌≡◌, ◌≢◌, ℕ, ◌<◌, Bool, true, false, refl, ap, sym, ◌∙◌, arith, subst, lit<, inl}
-use Rattle.std.proofs.Common.{inr}
+use Rattle.list_laws.proofs.Kit.{◌≡◌, ◌≢◌, ℕ, ◌<◌, Bool, true, false, refl, ap, sym, ◌∙◌, arith, subst, lit<, inl, inr, ltb-true, lt-ltb, cases_order}
 use Rattle.std.specs.Prelude.{nat_lt, IsTrue}
-use Rattle.std.proofs.lemmas.Bool.{ltb-true, lt-ltb, cases_order}
-use Rattle.list_laws.proofs.Below.{all_below, below_told}
-use Rattle.list_laws.proofs.Tests.{either_told, implied, both}
-use Rattle.tensor_defs.specs.Operation.{Operation, IsProduct, identity}
-use Rattle.tensor_defs.specs.OperationOrder.{comes_before}
-use Rattle.tensor_defs.specs.Frames.{IsPlain, IsHexagonal}
+use Rattle.list_laws.proofs.Prelude.{all_below, below_told, either_told, implied, both}
+use Rattle.tensor_defs.specs.Prelude.{Operation, IsProduct, identity, comes_before, IsPlain, IsHexagonal}
 use Rattle.tensor_laws.proofs.Products.{product_unique}
-use Rattle.op_matrix.specs.Table.{operation_at, nth_operation, place, matrix_place}
-use Rattle.op_matrix.specs.View.{hex_frame, plain_frame}
-use Rattle.op_matrix.specs.Laws.{HasFrame, OrderIsStrict, AreListed, FramesAreClosed}
+use Rattle.op_matrix.specs.Prelude.{operation_at, nth_operation, place, matrix_place, hex_frame, plain_frame, HasFrame, OrderIsStrict, AreListed}
+use Rattle.op_matrix.specs.Prelude.{FramesAreClosed}
 use Rattle.op_matrix.proofs.Frames.{also, either}
 use Rattle.op_matrix.proofs.Products.{frame_code}
 use Rattle.op_matrix.proofs.Facts.{before_places, place_of_nth, inverse_code, inverse_below}

@@ -1,12 +1,8 @@
 -- The table of products, by computing.
-use Rattle.std.proofs.Common.{[], ◌≡◌, ℕ, ◌<◌, Bool, true, false, refl}
-use Rattle.std.proofs.Common.{cond}
+use Rattle.list_laws.proofs.Kit.{[], ◌≡◌, ℕ, ◌<◌, Bool, true, false, refl, cond, slice_index_or, ltb-true}
 use Rattle.std.specs.Prelude.{nat_lt, slice_index}
-use Rattle.std.specs.List.{slice_index_or}
 use mathlib.Core.Bool.{xor}
-use Rattle.std.proofs.lemmas.Bool.{ltb-true}
-use Rattle.list_laws.proofs.Below.{all_below, below_told}
-use Rattle.list_laws.proofs.Tests.{implied}
+use Rattle.list_laws.proofs.Prelude.{all_below, below_told, implied}
 use Rattle.tensor_defs.specs.Operation.{IsProduct}
 use Rattle.tensor_laws.proofs.Products.{product_test, product_tested}
 use Rattle.op_matrix.specs.Table.{operation_at}

@@ -4,9 +4,7 @@
 --   AreListed        these operations are those at the places below 128, each at one place
 --   FramesAreClosed  two plain operations have a product, and it is plain; two hexagonal ones likewise
 use Rattle.std.specs.Prelude.{◌≡◌, ◌≢◌, ℕ, ◌<◌, ◌⊎◌, IsTrue}
-use Rattle.tensor_defs.specs.Operation.{Operation, IsProduct, identity}
-use Rattle.tensor_defs.specs.OperationOrder.{comes_before}
-use Rattle.tensor_defs.specs.Frames.{IsPlain, IsHexagonal}
+use Rattle.tensor_defs.specs.Prelude.{Operation, IsProduct, identity, comes_before, IsPlain, IsHexagonal}
 use Rattle.op_matrix.specs.Table.{nth_operation, place}
 
 abbrev pub HasFrame : Operation → Type 0

@@ -4,9 +4,7 @@
 --   place    the place of an operation among all 128 in their order
 --   nth_operation    the operation at a place in the order of all 128
 use Rattle.std.specs.Prelude.{ℕ, zero, suc, ◌+◌, ◌*◌, ◌/◌, ◌%◌, nat_eq, Bool, false, List, [], ◌∷◌, cond}
-use Rattle.tensor_defs.specs.Operation.{Operation, Row, identity, matrix, one, nought, minus_one, half, minus_half, h}
-use Rattle.tensor_defs.specs.Operation.{minus_h}
-use Rattle.tensor_defs.specs.OperationOrder.{same_entry}
+use Rattle.tensor_defs.specs.Prelude.{Operation, Row, identity, matrix, one, nought, minus_one, half, minus_half, h, minus_h, same_entry}
 
 abbrev pub matrices : List Operation
 matrices =

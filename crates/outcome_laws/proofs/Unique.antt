@@ -5,14 +5,8 @@
 use Rattle.std.proofs.Common.{◌≡◌, ℕ, ◌+◌, List, [], ◌∷◌, length, refl, sym, ap, subst, ◌∙◌}
 use Rattle.std.proofs.lemmas.List.{length-map}
 use Rattle.std.proofs.lemmas.Option.{same_Some}
-use Rattle.tensor_defs.specs.Group.{InGroup}
-use Rattle.tensor_defs.specs.Jahn.{rank}
-use Rattle.tensor_defs.specs.Orders.{index_before, block_before}
-use Rattle.tensor_defs.specs.Symbols.{GroupSymbol}
-use Rattle.tensor_defs.specs.Table.{Fits}
-use Rattle.tensor_laws.proofs.BlockOrder.{block_order}
-use Rattle.tensor_laws.proofs.IndexOrder.{index_order}
-use Rattle.tensor_laws.proofs.Unique.{same_free}
+use Rattle.tensor_defs.specs.Prelude.{InGroup, rank, index_before, block_before, GroupSymbol, Fits}
+use Rattle.tensor_laws.proofs.Prelude.{block_order, index_order, same_free}
 use Rattle.text_defs.specs.declared.Format.TheVariants.{One}
 use Rattle.text_defs.specs.Requests.{JahnAt, Request}
 use Rattle.text_laws.proofs.RequestUnique.{one_request_spelled}

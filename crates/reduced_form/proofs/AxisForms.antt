@@ -3,45 +3,27 @@
 --   system_exists    sound classes have unknowns
 --   word_lines, words_given, group_closed    the rows of words
 --   axis_fits, axis_grows, axis_calm    the same where the rank is that of a shape
-use Rattle.std.proofs.Common.{[], ◌≡◌, ℕ, zero, suc, ◌+◌, ◌^◌, ◌<◌, ◌≤◌, ◌↔◌, Bool, true, false, List, ◌∷◌, cond, length, get_or, replicate, refl, ap, sym, ◌∙◌, subst, arith, inl, inr, add-one}
+use Rattle.list_laws.proofs.Kit.{[], ◌≡◌, ℕ, zero, suc, ◌+◌, ◌^◌, ◌<◌, ◌≤◌, ◌↔◌, Bool, true, false, List, ◌∷◌, cond, length, get_or, replicate, refl, ap, sym}
+use Rattle.list_laws.proofs.Kit.{◌∙◌, subst, arith, inl, inr, add-one, cases_eq, cases_lt, cases_Bool, le-ltb, length-replicate, none-some, same_Some}
 use Rattle.std.specs.Prelude.{Contains, filter, nat_lt, slice_set, unsigned_abs}
-use Rattle.std.proofs.lemmas.Bool.{cases_eq, cases_lt, cases_Bool, le-ltb}
-use Rattle.std.proofs.lemmas.List.{length-replicate}
-use Rattle.std.proofs.lemmas.Option.{none-some, same_Some}
 use Rattle.constraint_rows.proofs.GatherLaws.{order_total}
-use Rattle.list_laws.proofs.Lists.{option_cases}
-use Rattle.list_laws.proofs.Members.{each_map, each_at}
+use Rattle.list_laws.proofs.Prelude.{option_cases, each_map, each_at}
 use Rattle.tensor_defs.specs.declared.Sign.{Sign}
 use Rattle.tensor_defs.specs.declared.Sign.TheVariants.{Plus, Minus}
-use Rattle.tensor_defs.specs.Elimination.{AreRepresentatives, AreUnknowns, Grows, GrowsFrom, by_place, carried, rows_of, share}
-use Rattle.tensor_defs.specs.Frames.{AllOf, IsFramed, IsPlain}
-use Rattle.tensor_defs.specs.Jahn.{IsInvariant, JahnSymbol, rank}
-use Rattle.tensor_defs.specs.Lists.{Each}
-use Rattle.tensor_defs.specs.Number.{Number, limit, mul, num_one, num_zero}
-use Rattle.tensor_defs.specs.Operation.{Operation}
-use Rattle.tensor_defs.specs.Table.{Fits, Table}
-use Rattle.tensor_defs.specs.Tensor.{Index, Tensor, component_number, index_of, sum_indices}
-use Rattle.tensor_defs.specs.Words.{Word, even_row, is_used, odd_row, words}
+use Rattle.tensor_defs.specs.Prelude.{AreRepresentatives, AreUnknowns, Grows, GrowsFrom, by_place, carried, rows_of, share, AllOf, IsFramed, IsPlain}
+use Rattle.tensor_defs.specs.Prelude.{IsInvariant, JahnSymbol, rank, Each, Number, limit, mul, num_one, num_zero, Operation, Fits, Table, Index, Tensor}
+use Rattle.tensor_defs.specs.Prelude.{component_number, index_of, sum_indices, Word, even_row, is_used, odd_row, words}
 use Rattle.number_laws.proofs.NumberLaws.{num_mul-one, num_one-mul}
-use Rattle.tensor_laws.proofs.ComponentNumbers.{length-index_of, number-index_of}
-use Rattle.tensor_laws.proofs.Products.{product_unique}
+use Rattle.tensor_laws.proofs.Prelude.{length-index_of, number-index_of, product_unique}
 use Rattle.magnetic_groups.specs.Sets.{In, IsGroup}
 use Rattle.sign_moves.specs.declared.classes.Entry.{Entry}
-use Rattle.sign_moves.specs.Classes.{first_at, vanishes_at}
-use Rattle.sign_moves.specs.Signs.{signed}
-use Rattle.tensor_rank.specs.IndexLaws.{component_below_at, index_number_at}
-use Rattle.tensor_rank.specs.Orders.{Ordering, before_at, before_of}
-use Rattle.tensor_rank.specs.ShapeValue.{ShapeValue}
-use Rattle.tensor_rank.specs.Shapes.{IsShapeOf}
-use Rattle.tensor_rank.specs.StrictOrders.{orders_are_orders}
-use Rattle.constraint_rows.specs.Classes.{class_at}
-use Rattle.constraint_rows.specs.WordRows.{AreParts, AreSound, AreWordRows, IsCarriedRow, IsGiven, IsOwn, carried_to, carrier_of}
+use Rattle.sign_moves.specs.Prelude.{first_at, vanishes_at, signed}
+use Rattle.tensor_rank.specs.Prelude.{component_below_at, index_number_at, Ordering, before_at, before_of, ShapeValue, IsShapeOf, orders_are_orders}
+use Rattle.constraint_rows.specs.Prelude.{class_at, AreParts, AreSound, AreWordRows, IsCarriedRow, IsGiven, IsOwn, carried_to, carrier_of}
 use Rattle.constraint_rows.specs.declared.rows.Part.{Part}
 use Rattle.sparse_rows.specs.Solutions.{Solve}
 use Rattle.axis_laws.specs.Laws.{IsClosed, OneElimination, RowsDecideInvariance, SolvesRows, SolvesWords}
-use Rattle.reduced_form.specs.Eliminated.{IsSystem}
-use Rattle.reduced_form.specs.Forms.{ArePlaces, IsFreeUpTo, free_at}
-use Rattle.reduced_form.specs.Solving.{FitsSet, IsSolution, line_at, lines_at}
+use Rattle.reduced_form.specs.Prelude.{IsSystem, ArePlaces, IsFreeUpTo, free_at, FitsSet, IsSolution, line_at, lines_at}
 use Rattle.reduced_form.proofs.FreeLaws.{free_apart, free_inserted, free_passes, free_start, places_next}
 use Rattle.reduced_form.proofs.Systems.{are_unknowns, index_at, index_list, long, solve_sums, sums_solve}
 

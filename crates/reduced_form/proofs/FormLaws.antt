@@ -2,46 +2,30 @@
 --   get_told    lists
 --   unit_value, unit_proper, plain_fits, solve_fits, form_whole, rows_same, terms_same
 --       terms that are 1 or -1 times a free component
-use Rattle.std.proofs.Common.{[], ◌≡◌, ℕ, ◌^◌, ◌<◌, ◌≤◌, Bool, true, false, List, ◌∷◌, length, get_or, map, refl, ap, sym, ◌∙◌, arith, subst, inl, inr, lit<}
+use Rattle.list_laws.proofs.Kit.{[], ◌≡◌, ℕ, ◌^◌, ◌<◌, ◌≤◌, Bool, true, false, List, ◌∷◌, length, get_or, map, refl, ap, sym, ◌∙◌, arith, subst, inl, inr}
+use Rattle.list_laws.proofs.Kit.{lit<, cases_lt, cases_Bool, get_or-map, ext_get_or, length-map, slice_get_within, get_or_from_slice_get}
 use Rattle.std.specs.Prelude.{Some, slice_get, IsTrue}
-use Rattle.std.proofs.lemmas.Bool.{cases_lt, cases_Bool}
-use Rattle.std.proofs.lemmas.List.{get_or-map, ext_get_or, length-map}
 use Rattle.std.proofs.lemmas.Nat.Gcd.{dvd_refl}
-use Rattle.std.proofs.lemmas.Option.{slice_get_within, get_or_from_slice_get}
 use Rattle.number_laws.proofs.Fractions.{over-whole}
-use Rattle.list_laws.proofs.Rising.{rising_get}
-use Rattle.list_laws.proofs.Members.{each_get}
+use Rattle.list_laws.proofs.Prelude.{rising_get, each_get}
 use lib.IntN.{pos, negsuc}
-use Rattle.tensor_defs.specs.Jahn.{JahnSymbol, rank, body_brackets}
-use Rattle.tensor_defs.specs.Lists.{Each}
-use Rattle.tensor_defs.specs.Number.{Number, mul, num_zero}
-use Rattle.tensor_defs.specs.Operation.{Operation}
+use Rattle.tensor_defs.specs.Prelude.{JahnSymbol, rank, body_brackets, Each, Number, mul, num_zero, Operation, Table, Fits, IsProper, AreTerms, value_at}
+use Rattle.tensor_defs.specs.Prelude.{chosen, sum_terms, Index, Tensor, component_number, index_of}
 use Rattle.tensor_defs.specs.Table as defs
-use Rattle.tensor_defs.specs.Table.{Table, Fits, IsProper, AreTerms, value_at, chosen, sum_terms}
-use Rattle.tensor_defs.specs.Tensor.{Index, Tensor, component_number, index_of}
 use Rattle.tensor_defs.specs.declared.Sign.{Sign}
 use Rattle.tensor_defs.specs.declared.Sign.TheVariants.{Plus, Minus}
 use Rattle.number_laws.proofs.NumberLaws.{num_add-zero, num_one-mul}
 use Rattle.tensor_laws.proofs.ComponentNumbers.{length-index_of, number-index_of}
 use Rattle.magnetic_groups.specs.Sets.{In}
 use Rattle.sign_moves.specs.declared.classes.Entry.{Entry}
-use Rattle.sign_moves.specs.Classes.{first_at, sign_at, vanishes_at}
-use Rattle.sign_moves.specs.Firsts.{IsFirstTable}
-use Rattle.sign_moves.specs.Moves.{IsReversible, IsKept}
-use Rattle.sign_moves.specs.Signs.{signed}
+use Rattle.sign_moves.specs.Prelude.{first_at, sign_at, vanishes_at, IsFirstTable, IsReversible, IsKept, signed}
 use Rattle.sign_moves.proofs.FirstLaws.{spread, spread_kept, spread_open, spread_vanishing, first_can, first_same}
 use Rattle.tensor_rank.specs.declared.exchanges.Exchange.{Exchange}
-use Rattle.tensor_rank.specs.IndexLaws.{index_number_at, component_below_at}
-use Rattle.tensor_rank.specs.Orders.{Ordering, before_at, before_of}
-use Rattle.tensor_rank.specs.ShapeValue.{ShapeValue}
-use Rattle.tensor_rank.specs.Shapes.{IsShapeOf}
-use Rattle.tensor_rank.specs.StrictOrders.{orders_are_orders}
-use Rattle.tensor_rank.specs.Symmetry.{exchanges_of}
-use Rattle.tensor_rank.specs.Within.{AllWithin}
+use Rattle.tensor_rank.specs.Prelude.{index_number_at, component_below_at, Ordering, before_at, before_of, ShapeValue, IsShapeOf, orders_are_orders}
+use Rattle.tensor_rank.specs.Prelude.{exchanges_of, AllWithin}
 use Rattle.tensor_rank.proofs.ExchangeIndex.{numbered}
 use Rattle.constraint_rows.specs.declared.ops.PlainOp.{PlainOp}
-use Rattle.constraint_rows.specs.Classes.{IsGeneratedBy, IsPlainTable, moves_of}
-use Rattle.constraint_rows.specs.PlainOps.{StandForAll}
+use Rattle.constraint_rows.specs.Prelude.{IsGeneratedBy, IsPlainTable, moves_of, StandForAll}
 use Rattle.constraint_rows.proofs.InvariantLaws.{all_moves, invariant_kept, kept_invariant, generators_suffice, fewer_suffice}
 use Rattle.reduced_form.specs.declared.forms.Term.{Term}
 use Rattle.reduced_form.specs.Forms.{HasUnits, unit_fraction, term_of, FormValue, row_at, form_table, unit_term, free_at, HasUnitRows, IsForm, IsFormOf, IsUnitRow, IsWellFormed}

@@ -2,19 +2,15 @@
 --   class_open, class_vanishing, class_some    what a table tells of a component
 --   free_start, free_passes, free_inserted, places_next    the free components below an end
 --   rows_more, free_apart, form_made    rows
-use Rattle.std.proofs.Common.{[], ◌≡◌, ℕ, zero, suc, ◌+◌, ◌-◌, ◌<◌, ◌≤◌, Bool, true, false, List, ◌∷◌, ◌++◌, map, cond, length, get_or, set, arith, ap, sym, ◌∙◌, subst, inl, inr}
-use Rattle.std.specs.List.{insert}
+use Rattle.list_laws.proofs.Kit.{[], ◌≡◌, ℕ, zero, suc, ◌+◌, ◌-◌, ◌<◌, ◌≤◌, Bool, true, false, List, ◌∷◌, ◌++◌, map, cond, length, get_or, arith, ap, sym}
+use Rattle.list_laws.proofs.Kit.{◌∙◌, subst, inl, inr, insert, cases_lt, cases_Bool, length-set, get_or-set_other, get_or-set_at, length-insert}
+use Rattle.list_laws.proofs.Kit.{get_or-insert_below, get_or-insert_at, get_or-insert_above, none-some, same_Some}
+use Rattle.std.proofs.Common.{set}
 use Rattle.std.specs.Prelude.{slice_set, Some, None}
-use Rattle.std.proofs.lemmas.Bool.{cases_lt, cases_Bool}
-use Rattle.std.proofs.lemmas.List.{length-set, get_or-set_other}
-use Rattle.std.proofs.lemmas.Grind.{get_or-set_at}
-use Rattle.std.proofs.lemmas.List.Edits.{length-insert, get_or-insert_below, get_or-insert_at, get_or-insert_above}
-use Rattle.std.proofs.lemmas.Option.{none-some, same_Some}
 use Rattle.constraint_rows.proofs.GatherLaws.{IsTotalBelow}
 use Rattle.tensor_defs.specs.declared.Sign.{Sign}
 use Rattle.sign_moves.specs.declared.classes.Entry.{Entry}
-use Rattle.sign_moves.specs.Classes.{entry_at, first_at, sign_at, vanishes_at}
-use Rattle.sign_moves.specs.Firsts.{AreSettled}
+use Rattle.sign_moves.specs.Prelude.{entry_at, first_at, sign_at, vanishes_at, AreSettled}
 use Rattle.constraint_rows.specs.Classes.{class_at}
 use Rattle.reduced_form.specs.declared.forms.Term.{Term}
 use Rattle.reduced_form.specs.Forms.{free_at, row_at, row_of, unit_term, IsFreeUpTo, ArePlaces, IsFormOf}

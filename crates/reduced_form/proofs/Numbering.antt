@@ -3,11 +3,10 @@
 --   pivots_next, pivot_read, entries_read, length-kepts    pivots
 --   places_free, places_told, number_rises, number_less, number_few, place_numbered, IsFreePlace
 --       free unknowns and their numbers
-use Rattle.std.proofs.Common.{◌≡◌, ℕ, zero, suc, ◌+◌, ◌<◌, ◌≤◌, ◌≢◌, List, [], ◌∷◌, ◌++◌, length, get_or, map, take, set, refl, ap, sym, ◌∙◌, subst, arith, inl, inr, length-append, add-one}
+use Rattle.list_laws.proofs.Kit.{◌≡◌, ℕ, zero, suc, ◌+◌, ◌<◌, ◌≤◌, ◌≢◌, List, [], ◌∷◌, ◌++◌, length, get_or, map, take, refl, ap, sym, ◌∙◌, subst, arith, inl}
+use Rattle.list_laws.proofs.Kit.{inr, add-one, cases_lt, cases_eq, length-set, get_or-set_other, get_or_push, get_or_append_left, get_or-set_at}
+use Rattle.std.proofs.Common.{set, length-append}
 use Rattle.std.specs.Prelude.{Option, Some, None, slice_set}
-use Rattle.std.proofs.lemmas.Bool.{cases_lt, cases_eq}
-use Rattle.std.proofs.lemmas.List.{length-set, get_or-set_other, get_or_push, get_or_append_left}
-use Rattle.std.proofs.lemmas.Grind.{get_or-set_at}
 use Rattle.list_laws.proofs.Lists.{option_cases}
 use Rattle.tensor_defs.specs.Elimination.{Kept}
 use Rattle.sparse_rows.specs.KeptRows.{kepts}

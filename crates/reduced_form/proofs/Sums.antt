@@ -14,21 +14,14 @@ use Rattle.exact_frac.proofs.Parts.{neg-held, numerator}
 use Rattle.number_laws.proofs.NumberLaws.{num_mul-add, num_mul_assoc}
 use Rattle.tensor_defs.specs.declared.Sign.{Sign}
 use Rattle.tensor_defs.specs.declared.Sign.TheVariants.{Plus, Minus}
-use Rattle.tensor_defs.specs.Elimination.{Kept}
-use Rattle.tensor_defs.specs.Lists.{Each}
-use Rattle.tensor_defs.specs.Number.{Number, add, mul, neg, value_of, whole}
-use Rattle.tensor_defs.specs.Table.{IsProper, sum_terms}
+use Rattle.tensor_defs.specs.Prelude.{Kept, Each, Number, add, mul, neg, value_of, whole, IsProper, sum_terms}
 use Rattle.sign_moves.specs.Signs.{signed}
-use Rattle.sparse_rows.specs.Sums.{is_pivot}
-use Rattle.sparse_rows.specs.Rows.{IsEntry, IsRow}
-use Rattle.sparse_rows.specs.Solutions.{AllApart, AreApart, IsKeptWithin, IsLeading, Solve, lines_of}
-use Rattle.sparse_rows.specs.Sums.{AreSolved, sum_entries}
+use Rattle.sparse_rows.specs.Prelude.{is_pivot, IsEntry, IsRow, AllApart, AreApart, IsKeptWithin, IsLeading, Solve, lines_of, AreSolved, sum_entries}
 use Rattle.sparse_rows.specs.declared.entry.Entry.{Entry as SparseEntry}
 use Rattle.sparse_rows.specs.declared.entry.PivotSum.{PivotSum}
 use Rattle.sparse_rows.proofs.Merging.{neg-not_zero}
 use Rattle.sparse_rows.proofs.Pivots.{pivot-other, pivot-own}
-use Rattle.reduced_form.specs.Forms.{term_of}
-use Rattle.reduced_form.specs.Eliminated.{AreNumbers, ArePivots, AreTold, entries_at, entry_term, pivot_at, signed_fraction, told_by}
+use Rattle.reduced_form.specs.Prelude.{term_of, AreNumbers, ArePivots, AreTold, entries_at, entry_term, pivot_at, signed_fraction, told_by}
 use Rattle.reduced_form.proofs.FormLaws.{unit_value}
 
 -- ---- pivots

@@ -8,39 +8,26 @@ use Rattle.std.proofs.lemmas.Bool.{cases_lt, cases_eq, eq-eqb, ne_eqb, lt-ltb, l
 use Rattle.std.proofs.lemmas.List.{get_or-map, length-map}
 use Rattle.std.proofs.lemmas.Option.{none-some, same_Some}
 use Rattle.constraint_rows.proofs.GatherLaws.{order_total}
-use Rattle.list_laws.proofs.Lists.{option_cases}
-use Rattle.list_laws.proofs.Rising.{rising_get, rising_same}
-use Rattle.list_laws.proofs.Members.{each_get}
+use Rattle.list_laws.proofs.Prelude.{option_cases, rising_get, rising_same, each_get}
 use Rattle.number_laws.proofs.Fractions.{over-whole}
 use Rattle.tensor_defs.specs.declared.Sign.{Sign}
 use Rattle.tensor_defs.specs.declared.Sign.TheVariants.{Plus}
-use Rattle.tensor_defs.specs.Elimination.{AreUnknowns, GrowsFrom, Kept}
-use Rattle.tensor_defs.specs.Lists.{Each, IsRising}
-use Rattle.tensor_defs.specs.Number.{Number, add, mul, num_one, num_zero, whole, limit}
-use Rattle.tensor_defs.specs.Tensor.{Index, Tensor, component_number, index_of}
+use Rattle.tensor_defs.specs.Prelude.{AreUnknowns, GrowsFrom, Kept, Each, IsRising, Number, add, mul, num_one, num_zero, whole, limit, Index, Tensor}
+use Rattle.tensor_defs.specs.Prelude.{component_number, index_of}
 use Rattle.tensor_laws.proofs.ComponentNumbers.{length-index_of, number-index_of}
 use Rattle.sign_moves.specs.declared.classes.Entry.{Entry}
-use Rattle.sign_moves.specs.Classes.{first_at, sign_at}
-use Rattle.sign_moves.specs.Signs.{signed}
-use Rattle.tensor_rank.specs.IndexLaws.{component_below_at}
-use Rattle.tensor_rank.specs.Orders.{Ordering, before_at, before_of}
-use Rattle.tensor_rank.specs.StrictOrders.{orders_are_orders}
-use Rattle.constraint_rows.specs.Classes.{class_at}
-use Rattle.constraint_rows.specs.WordRows.{AreParts, AreSound, IsGiven, IsOwn, carried_to, carrier_of, part_at, parts_rise, row_sum}
+use Rattle.sign_moves.specs.Prelude.{first_at, sign_at, signed}
+use Rattle.tensor_rank.specs.Prelude.{component_below_at, Ordering, before_at, before_of, orders_are_orders}
+use Rattle.constraint_rows.specs.Prelude.{class_at, AreParts, AreSound, IsGiven, IsOwn, carried_to, carrier_of, part_at, parts_rise, row_sum}
 use Rattle.constraint_rows.specs.WordRows as word
 use Rattle.constraint_rows.specs.declared.rows.Part.{Part}
-use Rattle.sparse_rows.specs.KeptRows.{AreGivenRows, IsEliminated, lines}
-use Rattle.sparse_rows.specs.Rows.{coeff, part}
-use Rattle.sparse_rows.specs.Solutions.{IsKeptWithin, IsWithin, Solve, dot}
-use Rattle.sparse_rows.specs.Sums.{sum_entries}
-use Rattle.sparse_rows.specs.WholeRows.{AreWhole, whole_line, whole_part}
+use Rattle.sparse_rows.specs.Prelude.{AreGivenRows, IsEliminated, lines, coeff, part, IsKeptWithin, IsWithin, Solve, dot, sum_entries, AreWhole, whole_line}
+use Rattle.sparse_rows.specs.Prelude.{whole_part}
 use Rattle.sparse_rows.specs.declared.entry.Entry.{Entry as SparseEntry}
 use Rattle.sparse_rows.specs.declared.entry.Row.{Row}
 use Rattle.sparse_rows.proofs.Merging.{coeff-below, part-other, part-own}
 use Rattle.sparse_rows.proofs.PivotSums.{dot-entries}
-use Rattle.reduced_form.specs.Forms.{ArePlaces, IsFreeUpTo, free_at}
-use Rattle.reduced_form.specs.Eliminated.{AreSparse, CanPlace, IsSparse, IsSystem, whole_of, wholes}
-use Rattle.reduced_form.specs.Solving.{line_at, lines_at}
+use Rattle.reduced_form.specs.Prelude.{ArePlaces, IsFreeUpTo, free_at, AreSparse, CanPlace, IsSparse, IsSystem, whole_of, wholes, line_at, lines_at}
 use Rattle.axis_laws.proofs.OneCarrier.{same_members}
 use Rattle.reduced_form.proofs.FreeLaws.{class_open, class_some}
 

@@ -6,21 +6,17 @@
 --   name_grown, name_longer, name_done    names
 --   terms_named, free_line, sum_line, zero_line    lines
 --   grown_twice, lines_start, lines_grown    lists that have grown
-use Rattle.std.proofs.Common.{◌≡◌, ℕ, zero, suc, ◌+◌, ◌*◌, ◌^◌, ◌<◌, ◌≤◌, Bool, true, false, List, [], ◌∷◌, ◌++◌, map, length, get_or, inl, inr, refl, ap, sym, ◌∙◌, arith, subst, length-append}
-use Rattle.std.specs.List.{flat_map}
+use Rattle.list_laws.proofs.Kit.{◌≡◌, ℕ, zero, suc, ◌+◌, ◌*◌, ◌^◌, ◌<◌, ◌≤◌, Bool, true, false, List, [], ◌∷◌, ◌++◌, map, length, get_or, inl, inr, refl, ap}
+use Rattle.list_laws.proofs.Kit.{sym, ◌∙◌, arith, subst, flat_map, pow-suc, flat_map-append, get_or-set_at, length-map, length-set, get_or-set_other}
+use Rattle.list_laws.proofs.Kit.{take_all, cases_Bool, cases_eq, cases_lt, false_from_ne_true}
+use Rattle.std.proofs.Common.{length-append}
 use Rattle.std.specs.Prelude.{codes, slice_set, take}
-use Rattle.std.proofs.Math.Nat.{pow-suc}
-use Rattle.std.proofs.lemmas.Grind.{flat_map-append, get_or-set_at}
-use Rattle.std.proofs.lemmas.List.{append_assoc, length-map, length-set, append-nil, get_or-set_other, take_all}
-use Rattle.std.proofs.lemmas.Bool.{cases_Bool, cases_eq, cases_lt, false_from_ne_true}
+use Rattle.std.proofs.lemmas.List.{append_assoc, append-nil}
 use Rattle.tensor_defs.specs.declared.Sign.{Sign}
 use Rattle.tensor_defs.specs.declared.Sign.TheVariants.{Plus, Minus}
 use Rattle.list_laws.proofs.Tests.{either_left, either_right, either_none}
-use Rattle.tensor_laws.proofs.Indices.{same_own, same_told}
-use Rattle.tensor_defs.specs.Lists.{Each}
-use Rattle.tensor_defs.specs.Operation.{Axis, x1, x2, x3}
-use Rattle.tensor_defs.specs.Tensor.{Index, axis_at, component_number, digit, index_of, indices, same_index}
-use Rattle.tensor_laws.proofs.ComponentNumbers.{number-index_of, index_at}
+use Rattle.tensor_laws.proofs.Prelude.{same_own, same_told, number-index_of, index_at}
+use Rattle.tensor_defs.specs.Prelude.{Each, Axis, x1, x2, x3, Index, axis_at, component_number, digit, index_of, indices, same_index}
 use Rattle.text_defs.specs.AnswerTexts.{component_line, component_name, digits_text, free_names, has_index, named, rational, row_text}
 use Rattle.text_defs.specs.NumberTexts.{NamedTerm, joined, later_terms, sum_text, term_text}
 use Rattle.text_laws.proofs.Joins.{equation_joined, free_joined}

@@ -1,34 +1,22 @@
 -- The table that kept rows give runs through the component lists that classes and rows leave.
 --   told_made, made_ranges, eliminated_fits, err_same    the terms name no later free component
-use Rattle.std.proofs.Common.{◌≡◌, ℕ, ◌^◌, ◌<◌, ◌≤◌, true, false, List, [], ◌∷◌, length, get_or, map, refl, ap, sym, ◌∙◌, subst, arith, inl, inr}
+use Rattle.list_laws.proofs.Kit.{◌≡◌, ℕ, ◌^◌, ◌<◌, ◌≤◌, true, false, List, [], ◌∷◌, length, get_or, map, refl, ap, sym, ◌∙◌, subst, arith, inl, inr, cases_lt}
+use Rattle.list_laws.proofs.Kit.{lt-ltb, true≢false, get_or-map, ext_get_or, length-map}
 use Rattle.std.specs.Prelude.{Err, IfErr, IsErrAnd, IsTrue, None, Ok, Option, Result, Some, slice_get}
-use Rattle.std.proofs.lemmas.Bool.{cases_lt, lt-ltb, true≢false}
-use Rattle.std.proofs.lemmas.List.{get_or-map, ext_get_or, length-map}
 use Rattle.constraint_rows.proofs.GatherLaws.{order_total}
-use Rattle.list_laws.proofs.Lists.{option_cases}
-use Rattle.list_laws.proofs.Rising.{rising_get}
-use Rattle.list_laws.proofs.Members.{each_map, each_get, each_both}
+use Rattle.list_laws.proofs.Prelude.{option_cases, rising_get, each_map, each_get, each_both}
 use Rattle.tensor_defs.specs.declared.Sign.{Sign}
 use Rattle.tensor_defs.specs.declared.Sign.TheVariants.{Plus}
-use Rattle.tensor_defs.specs.Elimination.{Kept}
-use Rattle.tensor_defs.specs.Lists.{Each, IsRising}
-use Rattle.tensor_defs.specs.Number.{Number, num_zero}
+use Rattle.tensor_defs.specs.Prelude.{Kept, Each, IsRising, Number, num_zero, AreTerms, IsProper, Table, alone, chosen, places_rise, sum_terms, value_at}
+use Rattle.tensor_defs.specs.Prelude.{Index, Tensor, component_number, index_of}
 use Rattle.tensor_defs.specs.Table as defs
-use Rattle.tensor_defs.specs.Table.{AreTerms, IsProper, Table, alone, chosen, places_rise, sum_terms, value_at}
-use Rattle.tensor_defs.specs.Tensor.{Index, Tensor, component_number, index_of}
 use Rattle.tensor_laws.proofs.ComponentNumbers.{length-index_of}
 use Rattle.sign_moves.specs.declared.classes.Entry.{Entry}
 use Rattle.sign_moves.specs.Signs.{signed}
-use Rattle.tensor_rank.specs.IndexLaws.{component_below_at, index_number_at}
-use Rattle.tensor_rank.specs.Orders.{Ordering, before_at, before_of}
-use Rattle.constraint_rows.specs.Classes.{class_at}
-use Rattle.constraint_rows.specs.WordRows.{IsGiven, IsOwn}
+use Rattle.tensor_rank.specs.Prelude.{component_below_at, index_number_at, Ordering, before_at, before_of}
+use Rattle.constraint_rows.specs.Prelude.{class_at, IsGiven, IsOwn}
 use Rattle.constraint_rows.specs.declared.rows.Part.{Part}
-use Rattle.sparse_rows.specs.Sums.{is_pivot}
-use Rattle.sparse_rows.specs.KeptRows.{IsEliminated, kepts, lines}
-use Rattle.sparse_rows.specs.Rows.{Above, IsRow}
-use Rattle.sparse_rows.specs.Solutions.{IsKeptWithin, IsReduced, Solve, lines_of}
-use Rattle.sparse_rows.specs.Sums.{AreSolved, sum_entries}
+use Rattle.sparse_rows.specs.Prelude.{is_pivot, IsEliminated, kepts, lines, Above, IsRow, IsKeptWithin, IsReduced, Solve, lines_of, AreSolved, sum_entries}
 use Rattle.sparse_rows.specs.declared.entry.Entry.{Entry as SparseEntry}
 use Rattle.sparse_rows.specs.declared.entry.KeptRow.{KeptRow}
 use Rattle.sparse_rows.specs.declared.entry.PivotSum.{PivotSum}

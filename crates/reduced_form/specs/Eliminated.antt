@@ -16,16 +16,12 @@ use Rattle.std.specs.Prelude.{◌≡◌, ℕ, zero, suc, ◌<◌, ◌^◌, List,
 use lib.IntN.{neg_ℤ}
 use Rattle.tensor_defs.specs.declared.Sign.{Sign}
 use Rattle.tensor_defs.specs.declared.Sign.TheVariants.{Plus, Minus}
-use Rattle.tensor_defs.specs.Elimination.{Kept}
-use Rattle.tensor_defs.specs.Lists.{Each}
-use Rattle.tensor_defs.specs.Number.{Fraction}
+use Rattle.tensor_defs.specs.Prelude.{Kept, Each, Fraction}
 use Rattle.sign_moves.specs.declared.classes.Entry.{Entry}
 use Rattle.tensor_rank.specs.Orders.{Ordering, before_at}
-use Rattle.constraint_rows.specs.Classes.{class_at}
-use Rattle.constraint_rows.specs.WordRows.{AreParts, AreSound}
+use Rattle.constraint_rows.specs.Prelude.{class_at, AreParts, AreSound}
 use Rattle.constraint_rows.specs.declared.rows.Part.{Part}
-use Rattle.sparse_rows.specs.Sums.{AreSolved}
-use Rattle.sparse_rows.specs.WholeRows.{AreWhole, IsWholeRow}
+use Rattle.sparse_rows.specs.Prelude.{AreSolved, AreWhole, IsWholeRow}
 use Rattle.sparse_rows.specs.declared.entry.Entry.{Entry as SparseEntry}
 use Rattle.sparse_rows.specs.declared.entry.PivotSum.{PivotSum}
 use Rattle.sparse_rows.specs.declared.entry.Row.{Row}

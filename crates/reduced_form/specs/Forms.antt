@@ -11,10 +11,8 @@
 use Rattle.std.specs.Prelude.{◌≡◌, ℕ, ◌<◌, ◌≤◌, Bool, true, false, List, [], ◌∷◌, length, get_or, map}
 use Rattle.std.proofs.Common.{cond}
 use lib.IntN.{ℤ, pos, negsuc}
-use Rattle.tensor_defs.specs.Lists.{Each}
-use Rattle.tensor_defs.specs.Number.{Fraction}
+use Rattle.tensor_defs.specs.Prelude.{Each, Fraction, Index, component_number, index_of}
 use Rattle.tensor_defs.specs.Table as defs
-use Rattle.tensor_defs.specs.Tensor.{Index, component_number, index_of}
 use Rattle.tensor_defs.specs.declared.Sign.{Sign}
 use Rattle.tensor_defs.specs.declared.Sign.TheVariants.{Plus, Minus}
 use Rattle.sign_moves.specs.declared.classes.Entry.{Entry}

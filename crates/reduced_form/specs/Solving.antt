@@ -5,15 +5,11 @@
 -- Source: the definition of a parametrised linear space.
 use Rattle.std.specs.Prelude.{◌≡◌, ℕ, ◌<◌, ◌^◌, Bool, List, [], ◌∷◌, length, IsTrue, slice_get, Some, None}
 use Rattle.tensor_defs.specs.declared.Sign.{Sign}
-use Rattle.tensor_defs.specs.Elimination.{Line, by_place}
-use Rattle.tensor_defs.specs.Lists.{Each, IsRising}
-use Rattle.tensor_defs.specs.Number.{Number, num_zero}
-use Rattle.tensor_defs.specs.Table.{Table, AreTerms, IsChoice, alone, value_at}
-use Rattle.tensor_defs.specs.Tensor.{Agree, Index, Tensor, component_number, index_of}
+use Rattle.tensor_defs.specs.Prelude.{Line, by_place, Each, IsRising, Number, num_zero, Table, AreTerms, IsChoice, alone, value_at, Agree, Index, Tensor}
+use Rattle.tensor_defs.specs.Prelude.{component_number, index_of}
 use Rattle.sign_moves.specs.declared.classes.Entry.{Entry}
 use Rattle.sign_moves.specs.Signs.{signed}
-use Rattle.constraint_rows.specs.Classes.{class_at}
-use Rattle.constraint_rows.specs.WordRows.{row_at, row_sum}
+use Rattle.constraint_rows.specs.Prelude.{class_at, row_at, row_sum}
 use Rattle.constraint_rows.specs.declared.rows.Part.{Part}
 
 pub record FitsSet (r : ℕ) (Lists : Tensor → Type 0) (before : Index → Index → Bool) (a : Table) : Type 0 where

@@ -8,8 +8,7 @@
 --   AreFreeMarks    for each component below n whether it is free
 use Rattle.std.specs.Prelude.{◌≡◌, ℕ, zero, suc, ◌<◌, Bool, true, false, List, [], ◌∷◌, ◌++◌, length, get_or, map, ◌==◌, if◌then◌else◌}
 use Rattle.tensor_defs.specs.Tensor.{index_of}
-use Rattle.text_defs.specs.AnswerTexts.{component_name, has_index, rational}
-use Rattle.text_defs.specs.NumberTexts.{NamedTerm, term_text, joined}
+use Rattle.text_defs.specs.Prelude.{component_name, has_index, rational, NamedTerm, term_text, joined}
 use Rattle.reduced_form.specs.declared.forms.Term.{Term}
 use Rattle.reduced_form.specs.Forms.{FormValue, free_at}
 

@@ -7,11 +7,10 @@ use Rattle.std.proofs.Common.{◌≡◌, ◌≢◌, ℕ, zero, suc, ◌<◌, ◌
 use Rattle.std.proofs.Common.{refl, sym, ap, subst, ◌∙◌, inl, inr, arith, lit≤}
 use Rattle.std.proofs.lemmas.List.{length-append, length-take, get_or-take, get_or_append_left, append-nil}
 use Rattle.tensor_defs.specs.Lists.{Each}
-use Rattle.text_defs.specs.Languages.{IsFaulty}
+use Rattle.text_defs.specs.Prelude.{IsFaulty, IsComment, IsRequestText, IsNoRequest}
 use Rattle.text_defs.specs.declared.Format.{Format}
 use Rattle.text_defs.specs.declared.Format.TheVariants.{One, Two}
 use Rattle.text_defs.specs.Requests as defs
-use Rattle.text_defs.specs.Requests.{IsComment, IsRequestText, IsNoRequest}
 use Rattle.text_defs.specs.declared.Fault.{Fault}
 use Rattle.request_lines.specs.declared.Request.{Request}
 use Rattle.request_lines.specs.declared.Request.TheVariants as request

@@ -6,13 +6,11 @@ use Rattle.std.specs.Prelude.{codes}
 use Rattle.std.proofs.lemmas.List.{append-nil}
 use Rattle.tensor_defs.specs.declared.Weights.{Weights}
 use Rattle.tensor_defs.specs.declared.Weights.TheVariants.{Plain, Shear}
-use Rattle.text_defs.specs.GroupTexts.{SpellsGroup}
-use Rattle.text_defs.specs.JahnTexts.{SpellsJahn}
+use Rattle.text_defs.specs.Prelude.{SpellsGroup, SpellsJahn, GroupAt, JahnAt, weights_text, GroupWord, JahnWord, GroupJahn, GroupGroup, GroupGroupJahn}
+use Rattle.text_defs.specs.Prelude.{GroupJahns, GroupGroupJahns, IsComment, SpellsRequest, IsRequestText}
 use Rattle.text_defs.specs.Requests as defs
 use Rattle.text_defs.specs.declared.Format.{Format}
 use Rattle.text_defs.specs.declared.Format.TheVariants.{One}
-use Rattle.text_defs.specs.Requests.{GroupAt, JahnAt, weights_text, GroupWord, JahnWord, GroupJahn, GroupGroup, GroupGroupJahn}
-use Rattle.text_defs.specs.Requests.{GroupJahns, GroupGroupJahns, IsComment, SpellsRequest, IsRequestText}
 use Rattle.request_lines.specs.declared.keywords.Keyword.{Keyword}
 use Rattle.request_lines.specs.declared.keywords.Keyword.TheVariants.{Form, Group, Voigt, States, Pairs, Differ, Same}
 use Rattle.request_lines.specs.Words.{Slot, GroupSlot, JahnSlot, ListSlot, WeightsSlot, weights_word, IsWordOf, IsWords, words_behind}

@@ -11,9 +11,7 @@ use Rattle.std.proofs.lemmas.List.{drop_at, drop-drop, get_or-drop, length-appen
 use Rattle.tensor_defs.specs.declared.Weights.{Weights}
 use Rattle.tensor_defs.specs.declared.Weights.TheVariants.{Plain, Shear}
 use Rattle.tensor_defs.specs.Jahn.{JahnSymbol}
-use Rattle.text_defs.specs.Languages.{IsFaulty}
-use Rattle.text_defs.specs.GroupTexts.{grey_one}
-use Rattle.text_defs.specs.JahnTexts.{SpellsJahn}
+use Rattle.text_defs.specs.Prelude.{IsFaulty, grey_one, SpellsJahn}
 use Rattle.text_laws.proofs.Words.{Visible, visible_tested, visible_append, group_visible, jahn_visible}
 use Rattle.fault_places.proofs.Places.{Through, Through-step, Through-stuck, Through-short, Through-faulty}
 use Rattle.list_laws.proofs.Lists.{tails, none_some}

@@ -7,13 +7,12 @@ use Rattle.std.proofs.Common.{◌≡◌, ℕ, ◌+◌, ◌-◌, ◌≤◌, List,
 use Rattle.std.specs.Prelude.{codes}
 use Rattle.std.proofs.lemmas.List.{length-append, append-nil}
 use Rattle.tensor_defs.specs.declared.Weights.{Weights}
-use Rattle.text_defs.specs.JahnTexts.{SpellsJahn, IsJahnText}
+use Rattle.text_defs.specs.Prelude.{SpellsJahn, IsJahnText, GroupAt, JahnAt, JahnWords, SpellsRequest, weights_text, GroupWord, GroupJahn, GroupGroup}
+use Rattle.text_defs.specs.Prelude.{GroupJahns, GroupGroupJahn, GroupGroupJahns}
 use Rattle.text_laws.proofs.RequestUnique.{one_request_spelled}
 use Rattle.request_lines.specs.declared.Request.{Request}
 use Rattle.text_defs.specs.declared.Format.{Format}
 use Rattle.text_defs.specs.declared.Format.TheVariants.{One}
-use Rattle.text_defs.specs.Requests.{GroupAt, JahnAt, JahnWords, SpellsRequest, weights_text, GroupWord, GroupJahn, GroupGroup}
-use Rattle.text_defs.specs.Requests.{GroupJahns, GroupGroupJahn, GroupGroupJahns}
 use Rattle.request_lines.specs.declared.Named.{Named}
 use Rattle.request_lines.specs.declared.Span.{Span}
 use Rattle.request_lines.specs.Words.{weights_word, words_behind}

@@ -8,11 +8,9 @@ use Rattle.std.proofs.Common.{refl, sym, ap, subst, ◌∙◌, append_assoc, inl
 use Rattle.std.specs.Prelude.{codes}
 use Rattle.std.proofs.lemmas.List.{append-nil, drop_at, drop-drop, length-append, length-drop, length-take-le}
 use Rattle.std.proofs.lemmas.List.{drop_all}
-use Rattle.text_defs.specs.Languages.{IsFaulty}
+use Rattle.text_defs.specs.Prelude.{IsFaulty, SpellsJahn, IsJahnText, JahnAt, JahnWords, most_words}
 use Rattle.text_defs.specs.declared.Format.{Format}
 use Rattle.text_defs.specs.declared.Format.TheVariants.{One, Two}
-use Rattle.text_defs.specs.JahnTexts.{SpellsJahn, IsJahnText}
-use Rattle.text_defs.specs.Requests.{JahnAt, JahnWords, most_words}
 use Rattle.text_laws.proofs.Words.{Above, jahn_above_comma}
 use Rattle.fault_places.proofs.Places.{StopsAt, Through, Through-start, Through-step, Through-faulty}
 use Rattle.list_laws.proofs.Lists.{tails, none_some}

@@ -11,9 +11,7 @@ use Rattle.std.specs.Prelude.{◌≡◌, ◌≢◌, ℕ, ◌+◌, ◌-◌, ◌<�
 use Rattle.tensor_defs.specs.declared.Weights.{Weights}
 use Rattle.text_defs.specs.declared.Format.{Format}
 use Rattle.text_defs.specs.declared.Format.TheVariants.{One, Two}
-use Rattle.text_defs.specs.Languages.{IsFaulty}
-use Rattle.text_defs.specs.GroupTexts.{SpellsGroup}
-use Rattle.text_defs.specs.JahnTexts.{IsJahnText}
+use Rattle.text_defs.specs.Prelude.{IsFaulty, SpellsGroup, IsJahnText}
 use Rattle.text_defs.specs.declared.Fault.{Fault}
 use Rattle.request_lines.specs.declared.Named.{Named}
 use Rattle.request_lines.specs.declared.Span.{Span}

@@ -6,13 +6,10 @@
 --   ReadsRequest    the request of the format that the line spells, or else the place where the line goes wrong
 --   ReadsWorded     the same, but where the line goes wrong as a line with a keyword
 -- Source: this project's own, over the texts of requests.
-use Rattle.std.specs.Prelude.{◌≡◌, ◌⊎◌, ℕ, ◌+◌, ◌-◌, ◌<◌, ◌≤◌, List, ◌∷◌, drop, take, length, get_or, Option, Some, None}
-use Rattle.std.specs.Prelude.{Result, Ok, Err}
-use Rattle.text_defs.specs.JahnTexts.{SpellsJahn}
-use Rattle.text_defs.specs.Languages.{IsFaulty}
+use Rattle.std.specs.Prelude.{◌≡◌, ◌⊎◌, ℕ, ◌+◌, ◌-◌, ◌<◌, ◌≤◌, List, ◌∷◌, drop, take, length, get_or, Option, Some, None, Result, Ok, Err}
+use Rattle.text_defs.specs.Prelude.{SpellsJahn, IsFaulty, GroupAt, JahnAt, JahnWords, SpellsRequest, IsNoRequest}
 use Rattle.text_defs.specs.declared.Format.{Format}
 use Rattle.text_defs.specs.Requests as defs
-use Rattle.text_defs.specs.Requests.{GroupAt, JahnAt, JahnWords, SpellsRequest, IsNoRequest}
 use Rattle.text_defs.specs.declared.Fault.{Fault}
 use Rattle.request_lines.specs.Keywords.{IsWorded}
 use Rattle.request_lines.specs.declared.Named.{Named}

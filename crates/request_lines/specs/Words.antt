@@ -13,8 +13,7 @@ use Rattle.tensor_defs.specs.declared.Weights.{Weights}
 use Rattle.tensor_defs.specs.declared.Weights.TheVariants.{Plain, Shear}
 use Rattle.text_defs.specs.declared.Format.{Format}
 use Rattle.text_defs.specs.declared.Format.TheVariants.{One, Two}
-use Rattle.text_defs.specs.GroupTexts.{IsGroupText}
-use Rattle.text_defs.specs.JahnTexts.{IsJahnText}
+use Rattle.text_defs.specs.Prelude.{IsGroupText, IsJahnText}
 
 pub data Slot : Type 0 where
   GroupSlot : Slot

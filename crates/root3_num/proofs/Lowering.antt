@@ -1,12 +1,9 @@
 -- Each fraction has lowest terms.
-use Rattle.std.proofs.Common.{ℕ, zero, suc, ◌*◌, ◌/◌, ◌%◌, ◌<◌, ◌≤◌, inl, inr, sym, ◌∙◌, ap, subst, arith}
+use Rattle.list_laws.proofs.Kit.{ℕ, zero, suc, ◌*◌, ◌/◌, ◌%◌, ◌<◌, ◌≤◌, inl, inr, sym, ◌∙◌, ap, subst, arith, IsGcd, IsGcd-from_zero, IsGcd-from_mod}
 use Rattle.std.specs.Prelude.{unsigned_abs}
-use Rattle.std.specs.Int.{IsGcd}
-use Rattle.std.proofs.lemmas.Nat.Gcd.{IsGcd-from_zero, IsGcd-from_mod}
 use native.Mathlib.Nat.{mod-lt, eq-zero-or-pos}
 use lib.IntN.{ℤ, pos, ◌+ℤ◌, ◌*ℤ◌}
-use Rattle.tensor_defs.specs.IntRing.{positive_mul}
-use Rattle.tensor_defs.specs.Number.{Fraction, IsFraction, IsLowest, over, value_of, add}
+use Rattle.tensor_defs.specs.Prelude.{positive_mul, Fraction, IsFraction, IsLowest, over, value_of, add}
 use Rattle.exact_frac.specs.Held.{signed, is_negative}
 use Rattle.exact_frac.proofs.Divisors.{factor-1, factor-2, part-positive, parts-lowest, gcd-positive}
 use Rattle.exact_frac.proofs.Signs.{signed-is, size-signed}

@@ -2,9 +2,8 @@
 use Rattle.std.proofs.Common.{◌≡◌, ℕ, ◌*◌, ◌<◌, refl, ap, sym, ◌∙◌}
 use Rattle.number_laws.proofs.Fractions.{zero_times}
 use lib.IntN.{ℤ, pos, ◌+ℤ◌, ◌*ℤ◌, +ℤ_idr, +ℤ_comm}
-use Rattle.tensor_defs.specs.IntRing.{positive_mul, mul-zero_ℤ, mul-cancel_ℤ, ring_ℤ}
-use Rattle.tensor_defs.specs.Number.{Number, Same, number_of, same_numbers, add, mul, add_at, mul_at, num_zero, whole, half_of, root_3, over, value_of}
-use Rattle.tensor_defs.specs.Number.{HasParts}
+use Rattle.tensor_defs.specs.Prelude.{positive_mul, mul-zero_ℤ, mul-cancel_ℤ, ring_ℤ, Number, Same, number_of, same_numbers, add, mul, add_at, mul_at}
+use Rattle.tensor_defs.specs.Prelude.{num_zero, whole, half_of, root_3, over, value_of, HasParts}
 use Rattle.number_laws.proofs.Sameness.{numbers_are_same_lem}
 use Rattle.number_laws.proofs.NumberLaws.{ring, num_zero-mul, num_add-zero}
 use Rattle.exact_frac.proofs.Overs.{over-at, over-same}

@@ -3,9 +3,7 @@
 --   AStepReaches    one of the steps of a product reaches the limit
 --   err-sum    a refusal, whatever its error
 --   roots-same    whether two pairs are one number
-use Rattle.std.proofs.Common.{◌≡◌, ◌⊎◌, inl, inr, refl, sym, ◌∙◌, subst, lit<, Result, Ok, Err}
-use Rattle.std.proofs.lemmas.Bool.{false≢true}
-use Rattle.std.specs.Result.{IsErr}
+use Rattle.list_laws.proofs.Kit.{◌≡◌, ◌⊎◌, inl, inr, refl, sym, ◌∙◌, subst, lit<, Result, Ok, Err, false≢true, IsErr}
 use lib.IntN.{pos}
 use Rattle.tensor_defs.specs.Number.{Number, Fraction, Root3, IsFraction, HasParts, ReachesLimit, PartReaches, ProductReaches, value_of, add, mul, whole, root_3, num_zero, IsLowest}
 use Rattle.number_laws.proofs.Limit.{one_fraction}

@@ -1,19 +1,14 @@
 -- How a table of first components is made from a table of classes.
 --   best_stays    c is no better than what is kept
 --   best_taken    c is taken
-use Rattle.std.proofs.Common.{◌≡◌, ◌≢◌, ℕ, ◌+◌, ◌<◌, Bool, true, false, List, length, get_or, set, arith, ap, sym, ◌∙◌, subst, inl, inr}
+use Rattle.list_laws.proofs.Kit.{◌≡◌, ◌≢◌, ℕ, ◌+◌, ◌<◌, Bool, true, false, List, length, get_or, arith, ap, sym, ◌∙◌, subst, inl, inr, length-set}
+use Rattle.list_laws.proofs.Kit.{get_or-set_other, get_or-set_at, eqb_tells, cases_lt, cases_Bool}
+use Rattle.std.proofs.Common.{set}
 use Rattle.std.specs.Prelude.{slice_set}
-use Rattle.std.proofs.lemmas.List.{length-set, get_or-set_other}
-use Rattle.std.proofs.lemmas.Grind.{get_or-set_at}
-use Rattle.std.proofs.lemmas.Bool.Decides.{eqb_tells}
-use Rattle.std.proofs.lemmas.Bool.{cases_lt, cases_Bool}
 use Rattle.sign_moves.specs.declared.classes.Entry.{Entry}
-use Rattle.sign_moves.specs.Signs.{times, times-times, times_self}
-use Rattle.sign_moves.specs.Moves.{Moves, IsReversible}
-use Rattle.sign_moves.specs.Classes.{first_at, sign_at, vanishes_at, IsClassTable}
+use Rattle.sign_moves.specs.Prelude.{times, times-times, times_self, Moves, IsReversible, first_at, sign_at, vanishes_at, IsClassTable, best_at, IsBestUpTo}
+use Rattle.sign_moves.specs.Prelude.{AreLinks, IsStrict, IsFirstTable}
 use Rattle.sign_moves.proofs.ClassLaws.{same_first, reached_first, zero_of_vanishing, class_reaches}
-use Rattle.sign_moves.specs.Best.{best_at, IsBestUpTo, AreLinks}
-use Rattle.sign_moves.specs.Firsts.{IsStrict, IsFirstTable}
 
 pub best_start : (n : ℕ) (before : ℕ → ℕ → Bool) (classes : List Entry) (best : List ℕ) → length best ≡ n →
     ((c : ℕ) → c < n → get_or best c 0 ≡ c) → IsBestUpTo n before classes best 0

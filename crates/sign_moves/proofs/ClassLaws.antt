@@ -3,9 +3,8 @@ use Rattle.std.proofs.Common.{◌≡◌, ℕ, ◌<◌, ◌≤◌, true, List, ar
 use Rattle.tensor_defs.specs.Number.{Number, num_zero}
 use Rattle.sign_moves.specs.declared.classes.Entry.{Entry}
 use Rattle.tensor_defs.specs.declared.Sign.{Sign}
-use Rattle.sign_moves.specs.Signs.{times, times_self, signed}
-use Rattle.sign_moves.specs.Moves.{Moves, IsReversible, IsKept, Reaches, stay, move}
-use Rattle.sign_moves.specs.Classes.{first_at, sign_at, vanishes_at, IsFixed, Clashes, IsClassTable}
+use Rattle.sign_moves.specs.Prelude.{times, times_self, signed, Moves, IsReversible, IsKept, Reaches, stay, move, first_at, sign_at, vanishes_at, IsFixed}
+use Rattle.sign_moves.specs.Prelude.{Clashes, IsClassTable}
 use Rattle.sign_moves.proofs.SignLaws.{signed-signed, signed_zero}
 use Rattle.sign_moves.proofs.MoveLaws.{reached_same, reaches_join, reaches_back, zero_of_both}
 

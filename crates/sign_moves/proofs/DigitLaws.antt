@@ -1,16 +1,13 @@
 -- Rows of steps by index digits.
 --   step_small    the numbers stay small
 --   spread_more    the steps of one component more
-use Rattle.std.proofs.Common.{◌≡◌, ℕ, ◌+◌, ◌*◌, ◌/◌, ◌%◌, ◌^◌, ◌<◌, ◌≤◌, List, [], ◌∷◌, ◌++◌, zero, suc, add-one, length, get_or, arith, ap, sym, ◌∙◌, refl, inl, inr}
-use Rattle.std.proofs.Common.{length-append, lit<}
-use Rattle.std.proofs.Math.Nat.{pow-le-pow_right, pow-succ'}
-use Rattle.std.proofs.lemmas.Bool.{cases_lt}
-use Rattle.std.proofs.lemmas.List.{get_or_push, get_or_append_left}
+use Rattle.list_laws.proofs.Kit.{◌≡◌, ℕ, ◌+◌, ◌*◌, ◌/◌, ◌%◌, ◌^◌, ◌<◌, ◌≤◌, List, [], ◌∷◌, ◌++◌, zero, suc, add-one, length, get_or, arith, ap, sym, ◌∙◌}
+use Rattle.list_laws.proofs.Kit.{refl, inl, inr, lit<, pow-le-pow_right, pow-succ', cases_lt, get_or_push, get_or_append_left}
+use Rattle.std.proofs.Common.{length-append}
 use Rattle.tensor_defs.specs.declared.Sign.{Sign}
 use Rattle.tensor_defs.specs.declared.Sign.TheVariants.{Plus}
 use Rattle.sign_moves.specs.declared.tabled.Step.{Step}
-use Rattle.sign_moves.specs.Tabling.{step_at}
-use Rattle.sign_moves.specs.Digits.{part_at, AreParts, joined_step, digit_step, IsDigitRow, IsSpread}
+use Rattle.sign_moves.specs.Prelude.{step_at, part_at, AreParts, joined_step, digit_step, IsDigitRow, IsSpread}
 
 pub row_begins : (parts : List (List Step)) (whole : Sign) → IsDigitRow parts whole 0 (record { to = 0; sign = whole } ∷ [])
 unfolding digit_step

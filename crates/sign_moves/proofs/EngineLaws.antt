@@ -7,22 +7,18 @@
 --   walk_ends    a walk whose queue is at its end
 --   walk_begins    a walk begins with a component that no walk has come to
 --   walk_passes    a component that a walk has come to
-use Rattle.std.proofs.Common.{[], ◌≡◌, ◌≢◌, ℕ, ◌+◌, ◌<◌, ◌≤◌, true, false, List, ◌∷◌, ◌++◌, arith, ap, sym, ◌∙◌, ◌⊎◌, refl, subst, length, set, le_refl, inl, inr}
+use Rattle.list_laws.proofs.Kit.{[], ◌≡◌, ◌≢◌, ℕ, ◌+◌, ◌<◌, ◌≤◌, true, false, List, ◌∷◌, ◌++◌, arith, ap, sym, ◌∙◌, ◌⊎◌, refl, subst, length, le_refl, inl}
+use Rattle.list_laws.proofs.Kit.{inr, length-set, get_or-set_other, get_or_push, get_or_append_left, sum_by-set, get_or-set_at, eqb_tells, get_or-eq_default}
+use Rattle.list_laws.proofs.Kit.{cases_lt, cases_Bool}
+use Rattle.std.proofs.Common.{set}
 use Rattle.std.specs.Prelude.{slice_set}
 use Rattle.std.proofs.Common.{length-append}
-use Rattle.std.proofs.lemmas.List.{length-set, get_or-set_other, get_or_push, get_or_append_left}
-use Rattle.std.proofs.lemmas.List.Sums.{sum_by-set}
-use Rattle.std.proofs.lemmas.Grind.{get_or-set_at}
-use Rattle.std.proofs.lemmas.Bool.Decides.{eqb_tells}
-use Rattle.std.proofs.Math.ListN.{get_or-eq_default}
-use Rattle.std.proofs.lemmas.Bool.{cases_lt, cases_Bool}
 use Rattle.sign_moves.specs.declared.classes.Entry.{Entry}
 use Rattle.tensor_defs.specs.declared.Sign.{Sign}
 use Rattle.tensor_defs.specs.declared.Sign.TheVariants.{Plus}
-use Rattle.sign_moves.specs.Signs.{times, times-times, times_self, times_plus}
-use Rattle.sign_moves.specs.Moves.{Moves, IsReversible, Reaches, stay, move}
-use Rattle.sign_moves.specs.Classes.{entry_at, first_at, sign_at, vanishes_at, total_of, IsSound, IsClassTable}
-use Rattle.sign_moves.specs.Walks.{item_at, Lengthens, IsClosed, IsClosedAt, HasClash, IsPending, IsWalk, IsWalked, Grows, IsStep}
+use Rattle.sign_moves.specs.Prelude.{times, times-times, times_self, times_plus, Moves, IsReversible, Reaches, stay, move, entry_at, first_at, sign_at}
+use Rattle.sign_moves.specs.Prelude.{vanishes_at, total_of, IsSound, IsClassTable, item_at, Lengthens, IsClosed, IsClosedAt, HasClash, IsPending, IsWalk}
+use Rattle.sign_moves.specs.Prelude.{IsWalked, Grows, IsStep}
 use Rattle.sign_moves.proofs.MoveLaws.{reaches_join, reaches_home}
 
 -- no walk has begun

@@ -8,16 +8,12 @@
 --   class_zero, first_of_class, tables_tell    tables of classes
 --   first_can, path_first, path_sign, path_vanishes, first_same, firsts_settled, firsts_tell
 --       tables of first components
-use Rattle.std.proofs.Common.{◌≡◌, ℕ, ◌<◌, Bool, true, false, List, ap, sym, ◌∙◌, refl, inl, inr}
-use Rattle.std.proofs.lemmas.Bool.{cases_Bool}
+use Rattle.list_laws.proofs.Kit.{◌≡◌, ℕ, ◌<◌, Bool, true, false, List, ap, sym, ◌∙◌, refl, inl, inr, cases_Bool}
 use Rattle.tensor_defs.specs.Number.{Number, num_zero, num_one}
 use Rattle.sign_moves.specs.declared.classes.Entry.{Entry}
 use Rattle.tensor_defs.specs.declared.Sign.{Sign}
-use Rattle.sign_moves.specs.Signs.{times, times-times, times_plus, signed}
-use Rattle.sign_moves.specs.Moves.{Moves, IsReversible, IsKept, Reaches, stay, move, IsForced, IsFirst}
-use Rattle.sign_moves.specs.Classes.{first_at, sign_at, vanishes_at, IsClassTable, IsFirstOfClass}
-use Rattle.sign_moves.specs.Firsts.{IsFirstTable, AreSettled}
-use Rattle.sign_moves.specs.Laws.{TablesTell, FirstsTell}
+use Rattle.sign_moves.specs.Prelude.{times, times-times, times_plus, signed, Moves, IsReversible, IsKept, Reaches, stay, move, IsForced, IsFirst, first_at}
+use Rattle.sign_moves.specs.Prelude.{sign_at, vanishes_at, IsClassTable, IsFirstOfClass, IsFirstTable, AreSettled, TablesTell, FirstsTell}
 use Rattle.sign_moves.proofs.SignLaws.{signed-signed, signed_zero, sign_not_zero}
 use Rattle.sign_moves.proofs.MoveLaws.{reached_below, reached_same}
 use Rattle.sign_moves.proofs.ClassLaws.{same_first, reached_first, zero_of_vanishing, class_reaches, class_same}

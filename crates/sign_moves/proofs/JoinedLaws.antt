@@ -4,17 +4,12 @@
 --   kept_by_first, kept_by_second, kept_by_both    a list is kept by both
 --   first_joined, kept_again    a list without moves; another list with the same values
 --   joined_tell     the law
-use Rattle.std.proofs.Common.{◌≡◌, ℕ, Bool, List, ◌+◌, ◌-◌, ◌<◌, ◌≤◌, cond, arith, ap, sym, ◌∙◌, subst, inl, inr}
-use Rattle.std.proofs.lemmas.Bool.{cases_lt, lt-ltb, le-ltb}
+use Rattle.list_laws.proofs.Kit.{◌≡◌, ℕ, Bool, List, ◌+◌, ◌-◌, ◌<◌, ◌≤◌, cond, arith, ap, sym, ◌∙◌, subst, inl, inr, cases_lt, lt-ltb, le-ltb}
 use Rattle.sign_moves.specs.declared.classes.Entry.{Entry}
-use Rattle.sign_moves.specs.Classes.{first_at, sign_at, vanishes_at}
-use Rattle.sign_moves.specs.Firsts.{IsFirstTable}
+use Rattle.sign_moves.specs.Prelude.{first_at, sign_at, vanishes_at, IsFirstTable, times, signed, Moves, IsReversible, IsKept, Reaches, stay, move, joined}
+use Rattle.sign_moves.specs.Prelude.{JoinedTell}
 use Rattle.tensor_defs.specs.declared.Sign.{Sign}
 use Rattle.tensor_defs.specs.Number.{Number}
-use Rattle.sign_moves.specs.Signs.{times, signed}
-use Rattle.sign_moves.specs.Moves.{Moves, IsReversible, IsKept, Reaches, stay, move}
-use Rattle.sign_moves.specs.Joined.{joined}
-use Rattle.sign_moves.specs.Laws.{JoinedTell}
 
 pub at_first : (a b : Moves) (k c : ℕ) → k < a.count → (joined a b).carried k c ≡ a.carried k c
 at_first a b k c h = ap (λ t. cond t (a.carried k c) (b.carried (k - a.count) c)) (lt-ltb k a.count h)

@@ -3,8 +3,7 @@ use Rattle.std.proofs.Common.{◌≡◌, ◌≢◌, ℕ, ◌<◌, ap, sym, ◌�
 use Rattle.tensor_defs.specs.Number.{Number, num_zero}
 use Rattle.tensor_defs.specs.declared.Sign.{Sign}
 use Rattle.tensor_defs.specs.declared.Sign.TheVariants.{Plus, Minus}
-use Rattle.sign_moves.specs.Signs.{times, times-times, signed}
-use Rattle.sign_moves.specs.Moves.{Moves, IsReversible, IsKept, Reaches, stay, move}
+use Rattle.sign_moves.specs.Prelude.{times, times-times, signed, Moves, IsReversible, IsKept, Reaches, stay, move}
 use Rattle.sign_moves.proofs.SignLaws.{signed-signed, opposite}
 
 -- a component that is reached is one, and a kept list has the same there, up to the sign

@@ -8,3 +8,4 @@ pub mod Digits
 pub mod Firsts
 pub mod Best
 pub mod Laws
+pub mod Prelude

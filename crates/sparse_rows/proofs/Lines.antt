@@ -4,13 +4,11 @@
 --   scaled-is, kept_same, scaled-unique    scaling
 --   reduced-keeps, reduced-zero, keep-reduced    each pivot is 1 in its own row and 0 in the others
 --   IsState, state-start, state-skip, new-leading, undo, state-keep ..    the state between two rows
-use Rattle.std.proofs.Common.{◌≡◌, ℕ, zero, suc, ◌⊎◌, ◌↔◌, inl, inr, List, [], ◌∷◌, ◌++◌, refl, ap, sym, ◌∙◌, subst, arith}
-use Rattle.std.proofs.lemmas.Bool.{cases_lt, cases_order}
+use Rattle.list_laws.proofs.Kit.{◌≡◌, ℕ, zero, suc, ◌⊎◌, ◌↔◌, inl, inr, List, [], ◌∷◌, ◌++◌, refl, ap, sym, ◌∙◌, subst, arith, cases_lt, cases_order}
 use Rattle.list_laws.proofs.Members.{each_map, each_push}
-use Rattle.tensor_defs.specs.Number.{Number, add, mul, neg, num_zero, num_one, whole}
+use Rattle.tensor_defs.specs.Prelude.{Number, add, mul, neg, num_zero, num_one, whole, Line, Kept, minus_times, less, reduced, cleared, IsScaled, IsZeroLine}
+use Rattle.tensor_defs.specs.Prelude.{ReducingGrows, LineGrows, ClearingGrows, GrowsFrom, Each}
 use Rattle.number_laws.proofs.NumberLaws.{num_mul_assoc, num_mul-add, num_add-zero, num_mul-one, num_mul-zero, num_mul_left_comm, num_one-mul, num_zero-mul, num_add-neg, ring}
-use Rattle.tensor_defs.specs.Elimination.{Line, Kept, minus_times, less, reduced, cleared, IsScaled, IsZeroLine, ReducingGrows, LineGrows, ClearingGrows, GrowsFrom}
-use Rattle.tensor_defs.specs.Lists.{Each}
 use Rattle.sparse_rows.specs.Solutions.{dot, Solve, lines_of, AreApart, AllApart, IsLeading, IsReduced, IsWithin, IsKeptWithin, scaled_by, IsPivot}
 
 neg_zero : neg num_zero ≡ num_zero

@@ -2,10 +2,9 @@
 --   IsMarking, marking-start, marking-step, marking-end    marking one entry after the other
 --   IsPassing, passing-start, passing-step, passing-end    looking at one entry after the other
 --   AreMet, met-less, met-same    a row is 0 at each unknown that isn't marked
-use Rattle.std.proofs.Common.{◌≡◌, ◌≢◌, ℕ, ◌+◌, ◌%◌, ◌<◌, ◌≤◌, Bool, true, false, List, length, get_or, drop, ap, sym, ◌∙◌, refl, subst, arith}
+use Rattle.list_laws.proofs.Kit.{◌≡◌, ◌≢◌, ℕ, ◌+◌, ◌%◌, ◌<◌, ◌≤◌, Bool, true, false, List, length, get_or, drop, ap, sym, ◌∙◌, refl, subst, arith}
+use Rattle.list_laws.proofs.Kit.{get_or-set_other, drop_all, length-set, get_or-set_at}
 use Rattle.std.specs.Prelude.{slice_set}
-use Rattle.std.proofs.lemmas.List.{get_or-set_other, drop_all, length-set}
-use Rattle.std.proofs.lemmas.Grind.{get_or-set_at}
 use Rattle.list_laws.proofs.Lists.{drop_head}
 use Rattle.tensor_defs.specs.Number.{Number, add, mul, neg, num_zero}
 use Rattle.sparse_rows.specs.Rows.{coeff, IsDifference}

@@ -5,10 +5,8 @@
 --   above-at, entry-at, at-left, at-right, heads-at, right-head ..    the steps, at places of both rows
 use Rattle.std.proofs.Common.{length, get_or, drop, ◌≡◌, ◌≢◌, ℕ, ◌+◌, ◌<◌, ◌≤◌, ◌⊎◌, inl, inr, List, [], ◌∷◌, ◌++◌, refl, ap, sym, ◌∙◌, subst, arith, lit<, nat_eq, cond}
 use Rattle.std.proofs.lemmas.Bool.{cases_eq, eq-eqb, ne_eqb}
-use Rattle.tensor_defs.specs.Number.{Number, add, mul, neg, num_zero, whole, ReachesLimit, value_of, Fraction}
+use Rattle.tensor_defs.specs.Prelude.{Number, add, mul, neg, num_zero, whole, ReachesLimit, value_of, Fraction, Line, minus_times, TimesGrows, Each}
 use Rattle.number_laws.proofs.NumberLaws.{num_add-zero, num_zero-add, num_mul-zero, num_add_assoc, num_add_comm, num_neg-neg, ring}
-use Rattle.tensor_defs.specs.Elimination.{Line, minus_times, TimesGrows}
-use Rattle.tensor_defs.specs.Lists.{Each}
 use Rattle.sparse_rows.proofs.Lines.{minus_none, undo}
 use Rattle.exact_frac.specs.Held.{inverse_of, IsHeld, zero_over_one}
 use Rattle.exact_frac.proofs.Parts.{inverse-mul, held-below}
@@ -17,8 +15,7 @@ use Rattle.exact_frac.proofs.Overs.{over-zero}
 use Rattle.sparse_rows.specs.Rows.{part, coeff, Above, IsEntry, IsRow, IsDifference, IsNegative, DifferenceGrows}
 use Rattle.std.specs.Prelude.{Result, Ok, Err, IfErr}
 use Rattle.std.proofs.lemmas.List.{drop_all}
-use Rattle.list_laws.proofs.Lists.{drop_head}
-use Rattle.list_laws.proofs.Members.{each_map, each_push}
+use Rattle.list_laws.proofs.Prelude.{drop_head, each_map, each_push}
 use Rattle.sparse_rows.specs.declared.entry.EliminateFault.{EliminateFault}
 use Rattle.sparse_rows.specs.declared.entry.EliminateFault.TheVariants.{TooLarge}
 use Rattle.sparse_rows.specs.declared.entry.Entry.{Entry}

@@ -4,23 +4,16 @@
 --   pivot-sum    the sum
 --   IsTurning, turning-start, turning-at, turning-end    the other signs, entry by entry
 --   leading-at, solved-at, solved-end    all rows
-use Rattle.std.proofs.Common.{◌≡◌, ◌≢◌, ℕ, zero, suc, ◌+◌, ◌<◌, ◌≤◌, ◌↔◌, inl, inr, List, [], ◌∷◌, ◌++◌, length, take, drop, get_or, add-one, refl, ap, sym, ◌∙◌, subst, arith, false}
-use Rattle.std.proofs.lemmas.Bool.{cases_eq, cases_order, cases_Bool}
-use Rattle.std.proofs.lemmas.List.{drop_all}
-use Rattle.list_laws.proofs.Lists.{drop_head}
-use Rattle.list_laws.proofs.Members.{each_map, each_push, each_read, each_split, each_take}
+use Rattle.list_laws.proofs.Kit.{◌≡◌, ◌≢◌, ℕ, zero, suc, ◌+◌, ◌<◌, ◌≤◌, ◌↔◌, inl, inr, List, [], ◌∷◌, ◌++◌, length, take, drop, get_or, add-one, refl, ap}
+use Rattle.list_laws.proofs.Kit.{sym, ◌∙◌, subst, arith, false, cases_eq, cases_order, cases_Bool, drop_all}
+use Rattle.list_laws.proofs.Prelude.{drop_head, each_map, each_push, each_read, each_split, each_take}
 use Rattle.number_laws.proofs.Sameness.{one_not_zero}
 use lib.IntN.{negsuc}
-use Rattle.tensor_defs.specs.Lists.{Each}
-use Rattle.tensor_defs.specs.Number.{Number, add, mul, neg, num_zero, num_one, whole, value_of}
-use Rattle.tensor_defs.specs.Elimination.{Line, Kept}
+use Rattle.tensor_defs.specs.Prelude.{Each, Number, add, mul, neg, num_zero, num_one, whole, value_of, Line, Kept}
 use Rattle.number_laws.proofs.NumberLaws.{num_add-zero, num_zero-add, num_zero-mul, num_one-mul, num_mul_comm, num_add_comm, num_add_assoc, num_add_left_comm, num_add-mul}
 use Rattle.exact_frac.specs.Held.{IsHeldAs}
-use Rattle.sparse_rows.specs.Rows.{part, coeff, Above, IsEntry, IsRow}
-use Rattle.sparse_rows.specs.Solutions.{dot, IsLeading, IsReduced}
-use Rattle.sparse_rows.specs.Sums.{sum_entries, IsNegated, IsPivotSum, IsSolved, AreSolved}
-use Rattle.sparse_rows.specs.Sums.{is_pivot}
-use Rattle.sparse_rows.specs.KeptRows.{kept_of, kepts}
+use Rattle.sparse_rows.specs.Prelude.{part, coeff, Above, IsEntry, IsRow, dot, IsLeading, IsReduced, sum_entries, IsNegated, IsPivotSum, IsSolved, AreSolved}
+use Rattle.sparse_rows.specs.Prelude.{is_pivot, kept_of, kepts}
 use Rattle.sparse_rows.specs.declared.entry.KeptRow.{KeptRow}
 use Rattle.sparse_rows.specs.declared.entry.PivotSum.{PivotSum}
 use Rattle.sparse_rows.specs.declared.entry.Entry.{Entry}

@@ -4,12 +4,9 @@
 --   from_sum, to_sum          a sum that is 0
 use Rattle.std.proofs.Common.{[], ◌≡◌, ◌≢◌, ℕ, inl, inr, List, ◌∷◌, refl, ap, sym, ◌∙◌, true, cond}
 use Rattle.std.proofs.lemmas.Bool.{cases_eq, eq-eqb, ne_eqb}
-use Rattle.tensor_defs.specs.Number.{Number, add, neg, num_zero, num_one}
+use Rattle.tensor_defs.specs.Prelude.{Number, add, neg, num_zero, num_one, Kept, Each}
 use Rattle.number_laws.proofs.NumberLaws.{num_add_comm, num_add_assoc, num_add-zero, num_zero-add, num_add-neg}
-use Rattle.tensor_defs.specs.Elimination.{Kept}
-use Rattle.tensor_defs.specs.Lists.{Each}
-use Rattle.sparse_rows.specs.Solutions.{AreApart, AllApart, IsLeading}
-use Rattle.sparse_rows.specs.Sums.{is_pivot}
+use Rattle.sparse_rows.specs.Prelude.{AreApart, AllApart, IsLeading, is_pivot}
 
 pub pivot-own : (κ : Kept) (κs : List Kept) (u : ℕ) → u ≡ κ.pivot → is_pivot (κ ∷ κs) u ≡ true
 pivot-own κ κs u e = ap (λ b. cond b true (is_pivot κs u)) (eq-eqb u κ.pivot e)

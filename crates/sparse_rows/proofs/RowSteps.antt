@@ -8,20 +8,17 @@
 --   line-head, given-row, state-at, skip-at, keep-at, keep-fails, state-done    one row more
 --   difference-same, times-same, reduced-same, reducing_same, kept-same, cannot-same, err-same
 --       the same lists under other names
-use Rattle.std.proofs.Common.{length, get_or, drop, drop-cons, add-one, ◌≡◌, ◌≢◌, ℕ, zero, suc, ◌+◌, ◌-◌, ◌/◌, ◌<◌, ◌≤◌, inl, inr, List, [], ◌∷◌, ◌++◌, refl, ap, sym, ◌∙◌, subst, arith}
-use Rattle.std.proofs.lemmas.Bool.{cases_Bool, cases_eq, cases_lt}
+use Rattle.list_laws.proofs.Kit.{length, get_or, drop, drop-cons, add-one, ◌≡◌, ◌≢◌, ℕ, zero, suc, ◌+◌, ◌-◌, ◌/◌, ◌<◌, ◌≤◌, inl, inr, List, [], ◌∷◌, ◌++◌}
+use Rattle.list_laws.proofs.Kit.{refl, ap, sym, ◌∙◌, subst, arith, cases_Bool, cases_eq, cases_lt, drop_of_length-le}
 use Rattle.std.specs.Prelude.{Result, Ok, Err, IfErr, IsErrAnd, Bool, false}
 use Rattle.sparse_rows.specs.declared.entry.EliminateFault.{EliminateFault}
 use Rattle.sparse_rows.specs.declared.entry.EliminateFault.TheVariants.{TooLarge}
-use Rattle.std.proofs.Math.ListN.{drop_of_length-le}
-use Rattle.list_laws.proofs.Lists.{drop_head}
-use Rattle.list_laws.proofs.Members.{each_push, each_read}
+use Rattle.list_laws.proofs.Prelude.{drop_head, each_push, each_read}
 use Rattle.sparse_rows.proofs.Lines.{IsState, state-skip, state-keep, grows-scaling, grows-clearing, state-end}
 use Rattle.sparse_rows.specs.declared.entry.Row.{Row}
-use Rattle.tensor_defs.specs.Number.{Number, add, mul, num_zero, ReachesLimit, value_of, Fraction}
+use Rattle.tensor_defs.specs.Prelude.{Number, add, mul, num_zero, ReachesLimit, value_of, Fraction, Line, Kept, less, reduced, cleared, TimesGrows}
+use Rattle.tensor_defs.specs.Prelude.{ReducingGrows, LessGrows, ClearingGrows, LineGrows, GrowsFrom, Each}
 use Rattle.number_laws.proofs.NumberLaws.{num_add-zero, num_zero-add, num_zero-mul, num_add-mul, num_mul_comm, num_add_assoc}
-use Rattle.tensor_defs.specs.Elimination.{Line, Kept, less, reduced, cleared, TimesGrows, ReducingGrows, LessGrows, ClearingGrows, LineGrows, GrowsFrom}
-use Rattle.tensor_defs.specs.Lists.{Each}
 use Rattle.sparse_rows.specs.Solutions.{scaled_by, IsLeading, IsPivot}
 use Rattle.sparse_rows.specs.Marks.{AreMarked, AreSeen, IsAway, is_marked}
 use Rattle.number_laws.proofs.Sameness.{one_not_zero}

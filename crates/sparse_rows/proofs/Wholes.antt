@@ -8,14 +8,10 @@ use Rattle.std.specs.Prelude.{unsigned_abs}
 use lib.IntN.{pos}
 use Rattle.exact_frac.proofs.Wide.{narrow}
 use Rattle.std.proofs.Common.{w64, to_z, of_z}
-use Rattle.list_laws.proofs.Lists.{drop_head}
-use Rattle.list_laws.proofs.Members.{each_map, each_push}
-use Rattle.tensor_defs.specs.Lists.{Each}
-use Rattle.tensor_defs.specs.Number.{add, num_zero, whole, value_of, limit}
-use Rattle.tensor_defs.specs.Elimination.{Line}
+use Rattle.list_laws.proofs.Prelude.{drop_head, each_map, each_push}
+use Rattle.tensor_defs.specs.Prelude.{Each, add, num_zero, whole, value_of, limit, Line}
 use Rattle.number_laws.proofs.NumberLaws.{num_add-zero, num_zero-add, num_add_assoc}
-use Rattle.sparse_rows.specs.Rows.{part, coeff, IsEntry, IsRow}
-use Rattle.sparse_rows.specs.WholeRows.{whole_part, whole_line, AreWhole, IsWholeRow}
+use Rattle.sparse_rows.specs.Prelude.{part, coeff, IsEntry, IsRow, whole_part, whole_line, AreWhole, IsWholeRow}
 use Rattle.sparse_rows.specs.declared.entry.Entry.{Entry}
 use Rattle.sparse_rows.specs.declared.whole.WholeEntry.{WholeEntry}
 use Rattle.sparse_rows.proofs.Merging.{part-own, part-other, coeff-snoc, row_snoc}

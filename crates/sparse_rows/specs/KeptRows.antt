@@ -9,10 +9,8 @@
 --   IsKeptRow, CannotKeep        the kept rows with one more; a step of that grows
 -- Source: this project's own.
 use Rattle.std.specs.Prelude.{◌≡◌, ◌≢◌, ℕ, List, [], ◌∷◌, ◌++◌, ◌⊎◌, Option, Some, None}
-use Rattle.tensor_defs.specs.Lists.{Each}
-use Rattle.tensor_defs.specs.Number.{Number, num_zero, Fraction}
-use Rattle.tensor_defs.specs.Elimination.{Line, Kept, less, reduced, cleared, ReducingGrows, LessGrows, ClearingGrows}
-use Rattle.tensor_defs.specs.Elimination.{LineGrows, GrowsFrom}
+use Rattle.tensor_defs.specs.Prelude.{Each, Number, num_zero, Fraction, Line, Kept, less, reduced, cleared, ReducingGrows, LessGrows, ClearingGrows}
+use Rattle.tensor_defs.specs.Prelude.{LineGrows, GrowsFrom}
 use Rattle.exact_frac.specs.Held.{IsHeldAs}
 use Rattle.sparse_rows.specs.Solutions.{IsReduced, HaveSameSolutions, lines_of, IsWithin, IsKeptWithin, IsPivot, scaled_by}
 use Rattle.sparse_rows.specs.Rows.{coeff, IsRow}

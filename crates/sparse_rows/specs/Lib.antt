@@ -4,3 +4,4 @@ pub mod Marks
 pub mod KeptRows
 pub mod WholeRows
 pub mod Sums
+pub mod Prelude

@@ -4,9 +4,7 @@
 --   IsAway       a row is 0 at each unknown that is marked
 --   AreSeen      kept rows are 0 at each unknown that isn't marked
 use Rattle.std.specs.Prelude.{◌≡◌, ℕ, ◌%◌, Bool, true, false, List, get_or, length}
-use Rattle.tensor_defs.specs.Elimination.{Kept}
-use Rattle.tensor_defs.specs.Lists.{Each}
-use Rattle.tensor_defs.specs.Number.{num_zero}
+use Rattle.tensor_defs.specs.Prelude.{Kept, Each, num_zero}
 use Rattle.sparse_rows.specs.Rows.{coeff}
 use Rattle.sparse_rows.specs.declared.entry.Entry.{Entry}
 

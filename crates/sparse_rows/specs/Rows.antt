@@ -7,9 +7,7 @@
 --   IsOfBoth, IsLeft, DifferenceGrows    an entry for a - f·b; none where that is 0; where it grows
 -- Source: this project's own.
 use Rattle.std.specs.Prelude.{◌≡◌, ◌≢◌, ℕ, ◌<◌, List, [], ◌∷◌, cond, nat_eq, ◌⊎◌, Option, Some, None}
-use Rattle.tensor_defs.specs.Lists.{Each}
-use Rattle.tensor_defs.specs.Number.{Number, add, mul, neg, num_zero, value_of, ReachesLimit}
-use Rattle.tensor_defs.specs.Elimination.{Line, minus_times, TimesGrows}
+use Rattle.tensor_defs.specs.Prelude.{Each, Number, add, mul, neg, num_zero, value_of, ReachesLimit, Line, minus_times, TimesGrows}
 use Rattle.exact_frac.specs.Held.{IsHeld}
 use Rattle.sparse_rows.specs.declared.entry.Entry.{Entry}
 

@@ -11,9 +11,7 @@
 --   scaled_by       a row times a number
 -- Source: the reduced row echelon form of a textbook, with the last unknown of a row as its pivot.
 use Rattle.std.specs.Prelude.{◌≡◌, ◌≢◌, ℕ, zero, suc, ◌<◌, ◌≤◌, List, [], ◌∷◌, ◌↔◌}
-use Rattle.tensor_defs.specs.Lists.{Each}
-use Rattle.tensor_defs.specs.Number.{Number, add, mul, num_zero, num_one}
-use Rattle.tensor_defs.specs.Elimination.{Line, Kept}
+use Rattle.tensor_defs.specs.Prelude.{Each, Number, add, mul, num_zero, num_one, Line, Kept}
 
 abbrev pub dot : ℕ → Line → (ℕ → Number) → Number
 dot zero ρ t = num_zero

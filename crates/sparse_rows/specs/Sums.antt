@@ -6,9 +6,7 @@
 --   IsSolved, AreSolved    a pivot as such a sum of unknowns that are the pivot of no row; those of all rows, in their order
 -- Source: the solution of a linear system by its free unknowns, as in any textbook.
 use Rattle.std.specs.Prelude.{◌≡◌, ◌≢◌, ℕ, ◌<◌, ◌↔◌, List, [], ◌∷◌, Bool, true, false, cond, nat_eq}
-use Rattle.tensor_defs.specs.Lists.{Each}
-use Rattle.tensor_defs.specs.Number.{Number, add, mul, neg, num_zero, value_of}
-use Rattle.tensor_defs.specs.Elimination.{Kept}
+use Rattle.tensor_defs.specs.Prelude.{Each, Number, add, mul, neg, num_zero, value_of, Kept}
 use Rattle.sparse_rows.specs.Rows.{coeff, IsRow}
 use Rattle.sparse_rows.specs.Solutions.{dot}
 use Rattle.sparse_rows.specs.declared.entry.Entry.{Entry}

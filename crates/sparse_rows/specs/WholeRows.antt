@@ -4,9 +4,7 @@
 --   IsWholeRow      a row of fractions with the line of the whole numbers
 -- Source: this project's own.
 use Rattle.std.specs.Prelude.{◌≡◌, ◌<◌, List, [], ◌∷◌, cond, nat_eq, unsigned_abs}
-use Rattle.tensor_defs.specs.Lists.{Each}
-use Rattle.tensor_defs.specs.Number.{add, num_zero, whole, limit}
-use Rattle.tensor_defs.specs.Elimination.{Line}
+use Rattle.tensor_defs.specs.Prelude.{Each, add, num_zero, whole, limit, Line}
 use Rattle.sparse_rows.specs.Rows.{coeff, IsRow}
 use Rattle.sparse_rows.specs.declared.entry.Entry.{Entry}
 use Rattle.sparse_rows.specs.declared.whole.WholeEntry.{WholeEntry}

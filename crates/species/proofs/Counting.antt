@@ -1,15 +1,10 @@
 -- The different members of a list, in their order.
 --   IsCounting      those that are at most a number
 --   counting_none, counting_more, counting_done
-use Rattle.std.proofs.Common.{◌≡◌, ℕ, ◌+◌, ◌≤◌, true, List, [], ◌∷◌, ◌++◌, length, refl, ap, sym, ◌∙◌, inl, inr, subst, arith}
+use Rattle.list_laws.proofs.Kit.{◌≡◌, ℕ, ◌+◌, ◌≤◌, true, List, [], ◌∷◌, ◌++◌, length, refl, ap, sym, ◌∙◌, inl, inr, subst, arith, cases_lt, nat_tests}
+use Rattle.list_laws.proofs.Kit.{length_push, Contains-append_left, Contains-push, Contains-push_cases}
 use Rattle.std.specs.Prelude.{Contains, IsTrue, ◌↔◌, nat_lt}
-use Rattle.std.proofs.lemmas.Bool.{cases_lt}
-use Rattle.std.proofs.lemmas.Bool.Decides.{nat_tests}
-use Rattle.std.proofs.lemmas.List.{length_push}
-use Rattle.std.proofs.lemmas.List.Elements.{Contains-append_left, Contains-push, Contains-push_cases}
-use Rattle.list_laws.proofs.Lists.{none_held}
-use Rattle.list_laws.proofs.Members.{each_from, each_held}
-use Rattle.list_laws.proofs.Rising.{rising_push}
+use Rattle.list_laws.proofs.Prelude.{none_held, each_from, each_held, rising_push}
 use Rattle.tensor_defs.specs.Lists.{IsRising}
 use Rattle.species.specs.Told.{AreWithin, HasDifferent}
 

@@ -1,14 +1,9 @@
 -- The first state is the subgroup.
 --   first_is_one    its representative is the identity
-use Rattle.std.proofs.Common.{◌≡◌, ◌≢◌, List, [], ◌∷◌, sym, ◌∙◌, inl, inr, subst}
+use Rattle.list_laws.proofs.Kit.{◌≡◌, ◌≢◌, List, [], ◌∷◌, sym, ◌∙◌, inl, inr, subst, same_Some, none-some}
 use Rattle.std.specs.Prelude.{Contains, IsTrue, Some, slice_get}
-use Rattle.std.proofs.lemmas.Option.{same_Some, none-some}
-use Rattle.list_laws.proofs.Lists.{found_held, held_cases}
-use Rattle.list_laws.proofs.Members.{each_held}
-use Rattle.tensor_defs.specs.Lists.{IsRising}
-use Rattle.tensor_defs.specs.Operation.{Operation, identity}
-use Rattle.tensor_defs.specs.OperationOrder.{comes_before}
-use Rattle.tensor_defs.specs.States.{AreStates, IsState, Times}
+use Rattle.list_laws.proofs.Prelude.{found_held, held_cases, each_held}
+use Rattle.tensor_defs.specs.Prelude.{IsRising, Operation, identity, comes_before, AreStates, IsState, Times}
 use Rattle.answer_laws.proofs.DomainStates.{same_operation}
 use Rattle.answer_laws.proofs.Listings.{before_irreflexive, before_transitive}
 use Rattle.magnetic_groups.specs.Sets.{In, IsGroup}

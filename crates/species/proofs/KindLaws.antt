@@ -1,12 +1,9 @@
 -- The kind of a species by its leaders.
 --   leader_here     the first of some states that isn't told apart from a state
 --   kind_told       what the leaders tell of the kind
-use Rattle.std.proofs.Common.{◌≡◌, ◌≢◌, ℕ, ◌+◌, ◌-◌, ◌<◌, ◌≤◌, true, false, List, length, get_or, ap, sym, ◌∙◌, inl, inr, subst, arith}
-use Rattle.std.proofs.lemmas.Bool.{cases_order}
-use Rattle.std.proofs.lemmas.Option.{slice_get-get_or, slice_get_within}
-use Rattle.tensor_defs.specs.Jahn.{JahnSymbol}
-use Rattle.tensor_defs.specs.Operation.{Operation, identity}
-use Rattle.tensor_defs.specs.States.{IsState}
+use Rattle.list_laws.proofs.Kit.{◌≡◌, ◌≢◌, ℕ, ◌+◌, ◌-◌, ◌<◌, ◌≤◌, true, false, List, length, get_or, ap, sym, ◌∙◌, inl, inr, subst, arith, cases_order}
+use Rattle.list_laws.proofs.Kit.{slice_get-get_or, slice_get_within}
+use Rattle.tensor_defs.specs.Prelude.{JahnSymbol, Operation, identity, IsState}
 use Rattle.species.specs.declared.kinds.Kind.{Kind}
 use Rattle.species.specs.declared.kinds.Kind.TheVariants.{Full, Partial, Non}
 use Rattle.species.specs.Species.{AllApart, AreLeaders, AreToldApart, IsKind, IsLeader, IsNumber, NoneApart}

@@ -1,6 +1,5 @@
 -- Numbers that don't differ are the same.
-use Rattle.std.proofs.Common.{◌≡◌, ◌≢◌, ℕ, ap, inl, inr}
-use Rattle.std.proofs.lemmas.Bool.Decides.{eqb_tells}
+use Rattle.list_laws.proofs.Kit.{◌≡◌, ◌≢◌, ℕ, ap, inl, inr, eqb_tells}
 use lib.IntN.{ℤ, pos, negsuc}
 use mathlib.Core.Quot.{ind}
 use Rattle.tensor_defs.specs.Number.{Number, Number_set, Same, Triple, number_of, same_numbers}

@@ -2,23 +2,13 @@
 --   mark_tells      a state of which some component is marked, or none
 --   carried_told    the marks of all states
 --   seen_apart, seen_none    the state of the second as seen from the first
-use Rattle.std.proofs.Common.{◌≡◌, ℕ, ◌+◌, ◌-◌, ◌<◌, ◌≤◌, ◌^◌, Bool, true, false, List, [], ◌∷◌, ◌++◌, length, get_or, refl, ap, sym, ◌∙◌, inl, inr, subst, arith}
+use Rattle.list_laws.proofs.Kit.{◌≡◌, ℕ, ◌+◌, ◌-◌, ◌<◌, ◌≤◌, ◌^◌, Bool, true, false, List, [], ◌∷◌, ◌++◌, length, get_or, refl, ap, sym, ◌∙◌, inl, inr, subst}
+use Rattle.list_laws.proofs.Kit.{arith, cases_lt, false≢true, get_or_push, length_push, get_or_from_slice_get, slice_get_within, get_or-append}
 use Rattle.std.specs.Prelude.{Contains, IsTrue, ◌↔◌, Some}
-use Rattle.std.proofs.lemmas.Bool.{cases_lt, false≢true}
-use Rattle.std.proofs.lemmas.List.{get_or_push, length_push}
-use Rattle.std.proofs.lemmas.Option.{get_or_from_slice_get, slice_get_within}
-use Rattle.std.proofs.Math.ListN.{get_or-append}
-use Rattle.tensor_defs.specs.Jahn.{JahnSymbol, rank}
-use Rattle.tensor_defs.specs.Operation.{IsProduct, Operation, identity}
-use Rattle.tensor_defs.specs.States.{AreStates, IsState}
-use Rattle.tensor_defs.specs.Table.{Table}
-use Rattle.tensor_defs.specs.Tensor.{component_number, index_of}
-use Rattle.tensor_laws.proofs.ComponentNumbers.{length-index_of, number-index_of}
+use Rattle.tensor_defs.specs.Prelude.{JahnSymbol, rank, IsProduct, Operation, identity, AreStates, IsState, Table, component_number, index_of}
+use Rattle.tensor_laws.proofs.Prelude.{length-index_of, number-index_of, product_assoc, product_unique, one_times, times_one}
 use Rattle.magnetic_groups.specs.Sets.{In, IsGroup}
 use Rattle.list_laws.proofs.Members.{each_found}
-use Rattle.tensor_laws.proofs.Associativity.{product_assoc}
-use Rattle.tensor_laws.proofs.Products.{product_unique}
-use Rattle.tensor_laws.proofs.Groups.{one_times, times_one}
 use Rattle.tensor_rank.specs.IndexLaws.{component_below_at}
 use Rattle.coset_states.specs.Numbering.{Cosets, TellsState}
 use Rattle.reduced_form.specs.Forms.{form_table}

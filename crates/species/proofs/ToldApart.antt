@@ -5,17 +5,10 @@
 --   apart_carries, carries_apart    states are told apart where the product of the inverse of the first representative and
 --                   the second carries some invariant tensor to another one
 --   state_carries, carries_state, none_carried    the elements of a state carry as its representative does; those of F don't
-use Rattle.std.proofs.Common.{◌≡◌, ℕ, ◌-◌, List, sym, ◌∙◌, arith}
-use Rattle.std.proofs.lemmas.Option.{same_Some}
+use Rattle.list_laws.proofs.Kit.{◌≡◌, ℕ, ◌-◌, List, sym, ◌∙◌, arith, same_Some}
 use Rattle.list_laws.proofs.Lists.{element_at}
-use Rattle.tensor_defs.specs.Jahn.{IsInvariant, JahnSymbol, rank}
-use Rattle.tensor_defs.specs.Operation.{IsProduct, Operation, identity}
-use Rattle.tensor_defs.specs.States.{IsState, Times}
-use Rattle.tensor_defs.specs.Tensor.{Agree, Tensor, act}
-use Rattle.tensor_laws.proofs.ActionLaws.{acts_in_turn, identity_acts_lem}
-use Rattle.tensor_laws.proofs.Agreeing.{act-agree, same_state}
-use Rattle.tensor_laws.proofs.Associativity.{product_assoc}
-use Rattle.tensor_laws.proofs.Groups.{one_times, times_one}
+use Rattle.tensor_defs.specs.Prelude.{IsInvariant, JahnSymbol, rank, IsProduct, Operation, identity, IsState, Times, Agree, Tensor, act}
+use Rattle.tensor_laws.proofs.Prelude.{acts_in_turn, identity_acts_lem, act-agree, same_state, product_assoc, one_times, times_one}
 use Rattle.species.specs.Species.{AreToldApart, InState, IsNumber}
 use Rattle.species.specs.Told.{Carries}
 

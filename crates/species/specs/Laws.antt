@@ -3,9 +3,7 @@
 --   IsEquivalence, SameIsEquivalence    not to be told apart is an equivalence of the states of a group that holds the
 --                      identity
 use Rattle.std.specs.Prelude.{ℕ, Contains, List}
-use Rattle.tensor_defs.specs.Jahn.{JahnSymbol, rank}
-use Rattle.tensor_defs.specs.Operation.{Operation, identity}
-use Rattle.tensor_defs.specs.Tensor.{Agree, act}
+use Rattle.tensor_defs.specs.Prelude.{JahnSymbol, rank, Operation, identity, Agree, act}
 use Rattle.species.specs.Species.{AreToldApart, InState, IsNumber}
 
 abbrev pub ElementsAreFree : Type 0

@@ -10,10 +10,7 @@
 -- Source: K. Aizu, Phys. Rev. B 2 (1970) 754, for the species; International Tables D 3.4 for the distinction of domain
 -- states by tensors.
 use Rattle.std.specs.Prelude.{◌≡◌, ◌≢◌, ℕ, ◌+◌, ◌<◌, ◌≤◌, true, false, List, [], ◌∷◌, length, slice_get, Some}
-use Rattle.tensor_defs.specs.Jahn.{Atom, Bracketed, IsInvariant, JahnSymbol, Symmetric, V, rank}
-use Rattle.tensor_defs.specs.Operation.{Operation}
-use Rattle.tensor_defs.specs.States.{IsState, Times}
-use Rattle.tensor_defs.specs.Tensor.{Agree, Marks, Tensor, act}
+use Rattle.tensor_defs.specs.Prelude.{Atom, Bracketed, IsInvariant, JahnSymbol, Symmetric, V, rank, Operation, IsState, Times, Agree, Marks, Tensor, act}
 use Rattle.species.specs.declared.kinds.Kind.{Kind}
 use Rattle.species.specs.declared.kinds.Kind.TheVariants.{Full, Partial, Non}
 use Rattle.species.specs.declared.properties.Property.{Property}

@@ -8,11 +8,7 @@
 --   AreWithin, HasDifferent    members are numbers of places; how many different members there are
 -- Source: International Tables D 3.4.
 use Rattle.std.specs.Prelude.{◌≡◌, ◌≢◌, ◌↔◌, ℕ, ◌+◌, ◌-◌, ◌<◌, ◌≤◌, Bool, true, false, List, length, get_or, Contains, IsTrue, nat_lt}
-use Rattle.tensor_defs.specs.Jahn.{IsInvariant, JahnSymbol, rank}
-use Rattle.tensor_defs.specs.Lists.{Each, IsListing}
-use Rattle.tensor_defs.specs.Operation.{Operation}
-use Rattle.tensor_defs.specs.States.{IsState}
-use Rattle.tensor_defs.specs.Tensor.{Agree, Tensor, act}
+use Rattle.tensor_defs.specs.Prelude.{IsInvariant, JahnSymbol, rank, Each, IsListing, Operation, IsState, Agree, Tensor, act}
 use Rattle.state_marks.specs.Told.{MarksValue, StateValue, mark_at, state_at}
 use Rattle.species.specs.declared.kinds.Kind.{Kind}
 use Rattle.species.specs.declared.kinds.Kind.TheVariants.{Full, Partial, Non}

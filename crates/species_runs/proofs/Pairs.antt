@@ -2,12 +2,7 @@
 --   pair_answered   the answer, and that no refusal applies
 --   pair_too_large    a number grows too large
 use Rattle.std.proofs.Common.{◌≡◌, ℕ, List, subst}
-use Rattle.tensor_defs.specs.Group.{InGroup}
-use Rattle.tensor_defs.specs.Lists.{IsListing}
-use Rattle.tensor_defs.specs.Operation.{Operation}
-use Rattle.tensor_defs.specs.OperationOrder.{comes_before}
-use Rattle.tensor_defs.specs.States.{AreStates}
-use Rattle.tensor_defs.specs.Symbols.{GroupSymbol}
+use Rattle.tensor_defs.specs.Prelude.{InGroup, IsListing, Operation, comes_before, AreStates, GroupSymbol}
 use Rattle.magnetic_groups.specs.Sets.{In, IsWithin}
 use Rattle.coset_states.specs.Numbering.{Cosets}
 use Rattle.tool_runs.specs.declared.refusals.RefusalName.{RefusalName}

@@ -2,15 +2,10 @@
 --   leaders_within  leaders are numbers of places
 --   line_same, species_same    over sets with the same members
 --   none_grows      no property of the three
-use Rattle.std.proofs.Common.{◌≡◌, ℕ, ◌+◌, ◌<◌, ◌≤◌, List, length, get_or, arith, subst, ap, sym}
+use Rattle.list_laws.proofs.Kit.{◌≡◌, ℕ, ◌+◌, ◌<◌, ◌≤◌, List, length, get_or, arith, subst, ap, sym, slice_get-get_or}
 use Rattle.std.specs.Prelude.{Some, slice_get}
-use Rattle.std.proofs.lemmas.Option.{slice_get-get_or}
 use Rattle.list_laws.proofs.Members.{each_get}
-use Rattle.tensor_defs.specs.Group.{SameSet}
-use Rattle.tensor_defs.specs.Jahn.{IsInvariant, JahnSymbol}
-use Rattle.tensor_defs.specs.Operation.{Operation}
-use Rattle.tensor_defs.specs.Symbols.{GroupSymbol}
-use Rattle.tensor_defs.specs.Tensor.{Tensor}
+use Rattle.tensor_defs.specs.Prelude.{SameSet, IsInvariant, JahnSymbol, Operation, GroupSymbol, Tensor}
 use Rattle.tensor_laws.proofs.Sets.{same_back}
 use Rattle.table_answers.proofs.SetLaws.{same_admitted}
 use Rattle.species.specs.declared.kinds.Kind.{Kind}

@@ -2,8 +2,7 @@
 --   pair_refused    a refusal of two accepted symbols is one of the words
 --   none_applies    where no refusal of the symbols applies, none of the words does
 use Rattle.std.proofs.Common.{◌≡◌, ℕ, [], get_or, refl, subst, sym, inl, inr}
-use Rattle.tensor_defs.specs.Group.{IsAccepted}
-use Rattle.tensor_defs.specs.Symbols.{GroupSymbol}
+use Rattle.tensor_defs.specs.Prelude.{IsAccepted, GroupSymbol}
 use Rattle.text_laws.specs.Laws.{OneGroupSymbol}
 use Rattle.tool_runs.specs.Tools.{Words}
 use Rattle.tool_runs.specs.declared.refusals.RefusalName.{RefusalName}

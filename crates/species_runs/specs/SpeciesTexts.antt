@@ -8,10 +8,8 @@
 -- Source: this project's own.
 use Rattle.std.specs.Prelude.{◌≡◌, ℕ, List, [], ◌∷◌, ◌++◌, codes, length}
 use Rattle.std.specs.Fmt.{decimal}
-use Rattle.tensor_defs.specs.Operation.{Operation}
-use Rattle.tensor_defs.specs.Symbols.{GroupSymbol}
-use Rattle.text_defs.specs.AnswerTexts.{line_of}
-use Rattle.text_defs.specs.GroupTexts.{group_text}
+use Rattle.tensor_defs.specs.Prelude.{Operation, GroupSymbol}
+use Rattle.text_defs.specs.Prelude.{line_of, group_text}
 use Rattle.state_marks.specs.Told.{MarksGrow}
 use Rattle.species.specs.declared.kinds.Kind.{Kind}
 use Rattle.species.specs.declared.kinds.Kind.TheVariants.{Full, Partial, Non}

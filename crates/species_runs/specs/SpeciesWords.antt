@@ -8,13 +8,8 @@
 --   usage_text, IsSpeciesAnswer    how the program is used; the text that it writes
 -- Source: this project's own.
 use Rattle.std.specs.Prelude.{◌≡◌, ◌⊎◌, ℕ, ◌+◌, List, [], ◌∷◌, ◌++◌, codes, get_or, length}
-use Rattle.tensor_defs.specs.Group.{InGroup, IsAccepted}
-use Rattle.tensor_defs.specs.Operation.{Operation}
-use Rattle.tensor_defs.specs.States.{AreStates}
-use Rattle.tensor_defs.specs.Symbols.{GroupSymbol}
-use Rattle.text_defs.specs.GroupTexts.{IsGroupText, SpellsGroup}
-use Rattle.text_defs.specs.Languages.{IsFaulty}
-use Rattle.text_defs.specs.Refusals.{IsOutside}
+use Rattle.tensor_defs.specs.Prelude.{InGroup, IsAccepted, Operation, AreStates, GroupSymbol}
+use Rattle.text_defs.specs.Prelude.{IsGroupText, SpellsGroup, IsFaulty, IsOutside}
 use Rattle.tool_runs.specs.Tools.{FirstLong, IsToolText, NoneLong, Words}
 use Rattle.tool_runs.specs.declared.refusals.RefusalName.{RefusalName}
 use Rattle.tool_runs.specs.declared.refusals.RefusalName.TheVariants as Name

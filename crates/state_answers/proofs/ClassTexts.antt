@@ -1,11 +1,9 @@
 -- The texts of class lines, piece by piece.
-use Rattle.std.proofs.Common.{◌≡◌, ℕ, zero, suc, ◌+◌, ◌<◌, ap, sym, ◌∙◌, arith, List, [], ◌∷◌, ◌++◌, length, get_or, take, drop, append_assoc}
+use Rattle.list_laws.proofs.Kit.{◌≡◌, ℕ, zero, suc, ◌+◌, ◌<◌, ap, sym, ◌∙◌, arith, List, [], ◌∷◌, ◌++◌, length, get_or, take, drop, decimal, drop_more}
+use Rattle.std.proofs.Common.{append_assoc}
 use Rattle.std.specs.Prelude.{map, slice_get, Some, codes}
-use Rattle.std.specs.Fmt.{decimal}
-use Rattle.std.proofs.lemmas.List.{drop_more}
 use Rattle.tensor_defs.specs.PairClasses as defs
-use Rattle.text_defs.specs.AnswerTexts.{class_line, class_lines, name_text, yes_no}
-use Rattle.text_defs.specs.NumberTexts.{spaced}
+use Rattle.text_defs.specs.Prelude.{class_line, class_lines, name_text, yes_no, spaced}
 use Rattle.twin_pairs.specs.declared.PairClass.{PairClass}
 use Rattle.twin_pairs.specs.Classes.{class_of}
 use Rattle.text_laws.proofs.Joins.{spaced_joined}

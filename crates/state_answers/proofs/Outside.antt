@@ -3,11 +3,7 @@ use Rattle.std.proofs.Common.{◌≡◌, ℕ, zero, suc, ◌+◌, ◌-◌, ◌<�
 use Rattle.std.specs.Prelude.{Contains, slice_index_or}
 use Rattle.std.proofs.lemmas.List.{drop_more, take-append-drop, length-take-le}
 use Rattle.std.proofs.lemmas.List.Elements.{Contains-append_right}
-use Rattle.tensor_defs.specs.Lists.{Each, IsListing}
-use Rattle.tensor_defs.specs.Operation.{Operation, identity}
-use Rattle.tensor_defs.specs.OperationOrder.{comes_before}
-use Rattle.tensor_defs.specs.Symbols.{GroupSymbol}
-use Rattle.tensor_defs.specs.Group.{InGroup}
+use Rattle.tensor_defs.specs.Prelude.{Each, IsListing, Operation, identity, comes_before, GroupSymbol, InGroup}
 use Rattle.text_defs.specs.Refusals.{IsOutside}
 use Rattle.magnetic_groups.specs.Sets.{IsWithin, IsFirstOutside}
 use Rattle.coset_states.specs.declared.StateFault.{StateFault}

@@ -3,12 +3,8 @@ use Rattle.std.proofs.Common.{◌≡◌, ◌≢◌, List, ◌⊎◌, inl, inr}
 use Rattle.std.specs.Prelude.{IsTrue}
 use Rattle.tensor_laws.proofs.Sets.{same_back, same_joined, name_same}
 use Rattle.list_laws.proofs.Members.{each_map}
-use Rattle.tensor_defs.specs.Lists.{IsListing}
-use Rattle.tensor_defs.specs.Operation.{Operation}
-use Rattle.tensor_defs.specs.OperationOrder.{comes_before}
-use Rattle.tensor_defs.specs.Group.{SameSet}
-use Rattle.tensor_defs.specs.States.{AreStates, InDouble, InPairGroup, InTwinningGroup, IsSwappable, Times}
-use Rattle.tensor_defs.specs.PairClasses.{PairClass, IsPairClass, ArePairClasses}
+use Rattle.tensor_defs.specs.Prelude.{IsListing, Operation, comes_before, SameSet, AreStates, InDouble, InPairGroup, InTwinningGroup, IsSwappable, Times}
+use Rattle.tensor_defs.specs.Prelude.{PairClass, IsPairClass, ArePairClasses}
 
 -- ---- cosets and the groups of a pair
 module _ (F F' : Operation → Type 0) (e : SameSet F F') where

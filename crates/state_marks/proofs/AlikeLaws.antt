@@ -6,13 +6,9 @@ use Rattle.std.proofs.Common.{◌≡◌, ℕ, suc, ◌+◌, ◌-◌, ◌/◌, �
 use Rattle.std.specs.Prelude.{◌≢◌, nat_eq}
 use lib.IntN.{negsuc, ◌*ℤ◌}
 use Rattle.list_laws.proofs.Below.{all_below, below_told}
-use Rattle.tensor_defs.specs.Lists.{Each}
-use Rattle.tensor_defs.specs.Number.{IsRoot3, Number, half_of, mul, neg, num_one, num_zero}
-use Rattle.tensor_defs.specs.Operation.{Axis, x1, x2, x3, Entry, Operation, Row, entry, in_row, value}
-use Rattle.tensor_defs.specs.OperationOrder.{same_entry}
-use Rattle.tensor_defs.specs.StateRows.{IsStateRow, StateRowGrows, factor_at, state_row, sum_of}
-use Rattle.tensor_defs.specs.Table.{Table}
-use Rattle.tensor_defs.specs.Tensor.{Index, Marks, coefficient, indices, sign}
+use Rattle.tensor_defs.specs.Prelude.{Each, IsRoot3, Number, half_of, mul, neg, num_one, num_zero, Axis, x1, x2, x3, Entry, Operation, Row, entry, in_row}
+use Rattle.tensor_defs.specs.Prelude.{value, same_entry, IsStateRow, StateRowGrows, factor_at, state_row, sum_of, Table, Index, Marks, coefficient, indices}
+use Rattle.tensor_defs.specs.Prelude.{sign}
 use Rattle.tensor_defs.specs.declared.Sign.{Sign}
 use Rattle.tensor_defs.specs.declared.Sign.TheVariants.{Plus, Minus}
 use Rattle.number_laws.proofs.NumberLaws.{num_mul_assoc, num_mul_left_comm}

@@ -2,22 +2,15 @@
 -- coefficient is (p + q√3)/2^r with small whole numbers p and q, and at most 3^r of them are added.
 --   IsBounded       (p + q√3)/d with whole numbers p and q of a bounded magnitude
 --   plain-calm      no row grows
-use Rattle.std.proofs.Common.{◌≡◌, ℕ, zero, suc, ◌+◌, ◌*◌, ◌^◌, ◌<◌, ◌≤◌, ◌/◌, ◌%◌, ◌⊎◌, inl, inr, Bool, true, false, cond, List, [], ◌∷◌, length, take, refl, ap, sym, ◌∙◌, subst, arith, lit<}
+use Rattle.list_laws.proofs.Kit.{◌≡◌, ℕ, zero, suc, ◌+◌, ◌*◌, ◌^◌, ◌<◌, ◌≤◌, ◌/◌, ◌%◌, ◌⊎◌, inl, inr, Bool, true, false, cond, List, [], ◌∷◌, length, take}
+use Rattle.list_laws.proofs.Kit.{refl, ap, sym, ◌∙◌, subst, arith, lit<, mul-le-mul, one-le-pow, pow-le-pow_right, pow-succ', unsigned_abs-mul, leb-true}
 use Rattle.std.specs.Prelude.{nat_le, nat_eq, unsigned_abs}
-use Rattle.std.proofs.Math.Nat.{mul-le-mul, one-le-pow, pow-le-pow_right, pow-succ'}
-use Rattle.std.proofs.lemmas.Int.{unsigned_abs-mul}
-use Rattle.std.proofs.lemmas.Bool.{leb-true}
 use lib.IntN.{ℤ, pos, negsuc, neg_ℤ, ◌+ℤ◌, ◌*ℤ◌, +ℤ_idr}
-use Rattle.tensor_defs.specs.IntRing.{ring_ℤ, positive_mul}
-use Rattle.tensor_defs.specs.Lists.{Each}
-use Rattle.tensor_defs.specs.Number.{Number, number_of, same_numbers, add, add_at, mul, mul_at, neg, whole, over, half_of, num_zero, num_one, root_3, limit, HasParts, PartReaches, ProductReaches, ReachesLimit}
-use Rattle.tensor_defs.specs.Operation.{Axis, x1, x2, x3, Entry, Row, Operation, entry, in_row, value}
-use Rattle.tensor_defs.specs.StateRows.{StateRowGrows, factor_at, state_part, sum_of}
-use Rattle.tensor_defs.specs.Table.{Table}
-use Rattle.tensor_defs.specs.Tensor.{Index, Marks, axial_sign, coefficient, indices, sign, time_sign}
-use Rattle.list_laws.proofs.Below.{all_below, below_told}
-use Rattle.list_laws.proofs.Members.{each_map, each_take}
-use Rattle.list_laws.proofs.Tests.{both}
+use Rattle.tensor_defs.specs.Prelude.{ring_ℤ, positive_mul, Each, Number, number_of, same_numbers, add, add_at, mul, mul_at, neg, whole, over, half_of}
+use Rattle.tensor_defs.specs.Prelude.{num_zero, num_one, root_3, limit, HasParts, PartReaches, ProductReaches, ReachesLimit, Axis, x1, x2, x3, Entry, Row}
+use Rattle.tensor_defs.specs.Prelude.{Operation, entry, in_row, value, StateRowGrows, factor_at, state_part, sum_of, Table, Index, Marks, axial_sign}
+use Rattle.tensor_defs.specs.Prelude.{coefficient, indices, sign, time_sign}
+use Rattle.list_laws.proofs.Prelude.{all_below, below_told, each_map, each_take, both}
 use Rattle.number_laws.proofs.NumberLaws.{num_add-zero, num_zero-add, num_mul-zero, num_zero-mul, num_mul-one, num_one-mul, num_mul_comm, num_mul_assoc}
 use Rattle.exact_frac.proofs.Divisors.{gcd-one}
 use Rattle.number_laws.proofs.Fractions.{over-whole, zero_times}

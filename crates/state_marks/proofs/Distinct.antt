@@ -1,15 +1,9 @@
 -- A component distinguishes a state exactly where its row there is another than in the table.
-use Rattle.std.proofs.Common.{◌≡◌, ℕ, zero, suc, ◌<◌, inl, inr, Bool, true, false, List, [], ◌∷◌, ◌++◌, length, refl, ap, sym, ◌∙◌, arith}
+use Rattle.list_laws.proofs.Kit.{◌≡◌, ℕ, zero, suc, ◌<◌, inl, inr, Bool, true, false, List, [], ◌∷◌, ◌++◌, length, refl, ap, sym, ◌∙◌, arith, cases_lt}
+use Rattle.list_laws.proofs.Kit.{get_or_push, length_push, get_or-append}
 use Rattle.std.specs.Prelude.{IsTrue, ◌↔◌}
-use Rattle.std.proofs.lemmas.Bool.{cases_lt}
-use Rattle.std.proofs.lemmas.List.{get_or_push, length_push}
-use Rattle.std.proofs.Math.ListN.{get_or-append}
-use Rattle.tensor_defs.specs.Jahn.{JahnSymbol, rank}
-use Rattle.tensor_defs.specs.Number.{Number, mul, num_zero, num_one}
-use Rattle.tensor_defs.specs.Operation.{Operation}
-use Rattle.tensor_defs.specs.StateRows.{Distinguishes, factor_at, state_row}
-use Rattle.tensor_defs.specs.Table.{Fits, Table, chosen, value_at}
-use Rattle.tensor_defs.specs.Tensor.{Index, act}
+use Rattle.tensor_defs.specs.Prelude.{JahnSymbol, rank, Number, mul, num_zero, num_one, Operation, Distinguishes, factor_at, state_row, Fits, Table, chosen}
+use Rattle.tensor_defs.specs.Prelude.{value_at, Index, act}
 use Rattle.number_laws.proofs.NumberLaws.{num_mul-one, num_mul-zero}
 use Rattle.tensor_laws.proofs.Agreeing.{act-agree}
 use Rattle.state_marks.specs.Told.{TellsRow}

@@ -8,9 +8,7 @@ use Rattle.std.proofs.Common.{◌≡◌, ◌≢◌, ℕ, zero, suc, ◌<◌, ◌
 use Rattle.std.specs.Prelude.{nat_eq, IsTrue}
 use Rattle.std.proofs.lemmas.Bool.Decides.{nat_tests}
 use Rattle.std.proofs.lemmas.Bool.{eq-eqb, ne_eqb}
-use Rattle.tensor_defs.specs.Lists.{Each, IsRising}
-use Rattle.tensor_defs.specs.Number.{num_zero, value_of}
-use Rattle.tensor_defs.specs.Table.{places_rise}
+use Rattle.tensor_defs.specs.Prelude.{Each, IsRising, num_zero, value_of, places_rise}
 use Rattle.reduced_form.specs.declared.forms.Term.{Term}
 use Rattle.reduced_form.specs.Forms.{term_of}
 use Rattle.state_marks.specs.Sums.{factor_in, form_term_at}

@@ -6,12 +6,8 @@ use Rattle.std.proofs.Common.{◌≡◌, ◌≢◌, ℕ, zero, suc, ◌<◌, inl
 use Rattle.std.specs.Prelude.{nat_eq, nat_lt, IsTrue}
 use Rattle.std.proofs.lemmas.Bool.Decides.{nat_tests}
 use Rattle.std.proofs.lemmas.Bool.{cases_lt, eq-eqb, ne_eqb}
-use Rattle.tensor_defs.specs.Lists.{Each, IsRising}
-use Rattle.tensor_defs.specs.Number.{Number, add, mul, num_zero}
-use Rattle.tensor_defs.specs.Operation.{Operation}
-use Rattle.tensor_defs.specs.StateRows.{factor_at, state_row, sum_of}
-use Rattle.tensor_defs.specs.Table.{Table, Term, chosen, factor_of, places_rise, sum_terms, value_at}
-use Rattle.tensor_defs.specs.Tensor.{Index, Marks, act, indices}
+use Rattle.tensor_defs.specs.Prelude.{Each, IsRising, Number, add, mul, num_zero, Operation, factor_at, state_row, sum_of, Table, Term, chosen, factor_of}
+use Rattle.tensor_defs.specs.Prelude.{places_rise, sum_terms, value_at, Index, Marks, act, indices}
 use Rattle.number_laws.proofs.NumberLaws.{num_add-zero, num_mul-zero, num_zero-add, num_zero-mul, num_mul-add, ring}
 use Rattle.tensor_laws.proofs.Agreeing.{sum_indices-agree}
 use Rattle.tensor_action.specs.Acting.{factor}

@@ -5,27 +5,18 @@
 --   a_row_grows     a row of a later state that grows
 --   grown_told, fault_told, some_state    refusals, of a row and of a table; there is a state
 --   form_has_units  each row of the form of a plain group is empty or one free component with the factor 1 or -1
-use Rattle.std.proofs.Common.{◌≡◌, ℕ, zero, suc, ◌+◌, ◌-◌, ◌<◌, ◌≤◌, ◌^◌, inl, inr, Bool, true, false, cond, List, [], ◌∷◌, length, map, drop, get_or, refl, ap, sym, ◌∙◌, subst, arith, Result, Ok, Err}
-use Rattle.std.specs.Result.{IfErr, IsErrAnd}
+use Rattle.list_laws.proofs.Kit.{◌≡◌, ℕ, zero, suc, ◌+◌, ◌-◌, ◌<◌, ◌≤◌, ◌^◌, inl, inr, Bool, true, false, cond, List, [], ◌∷◌, length, map, drop, get_or}
+use Rattle.list_laws.proofs.Kit.{refl, ap, sym, ◌∙◌, subst, arith, Result, Ok, Err, IfErr, IsErrAnd, none-some, slice_get_within}
 use Rattle.std.specs.Prelude.{Contains, nat_eq, slice_get, Some}
-use Rattle.std.proofs.lemmas.Option.{none-some, slice_get_within}
 use lib.IntN.{negsuc}
 use Rattle.number_laws.proofs.Fractions.{over-whole}
 use Rattle.list_laws.proofs.Lists.{found_held}
-use Rattle.tensor_defs.specs.Elimination.{Grows}
-use Rattle.tensor_defs.specs.Jahn.{JahnSymbol, rank}
-use Rattle.tensor_defs.specs.Number.{num_zero, value_of}
-use Rattle.tensor_defs.specs.Operation.{Operation, identity}
-use Rattle.tensor_defs.specs.Orders.{index_before}
-use Rattle.tensor_defs.specs.StateRows.{RowsGrow, factor_at}
-use Rattle.tensor_defs.specs.States.{AreStates, IsState}
-use Rattle.tensor_defs.specs.Table.{Fits, Table}
-use Rattle.tensor_defs.specs.Tensor.{Marks, component_number}
+use Rattle.tensor_defs.specs.Prelude.{Grows, JahnSymbol, rank, num_zero, value_of, Operation, identity, index_before, RowsGrow, factor_at, AreStates, IsState}
+use Rattle.tensor_defs.specs.Prelude.{Fits, Table, Marks, component_number}
 use Rattle.tensor_defs.specs.declared.Sign.{Sign}
 use Rattle.tensor_defs.specs.declared.Sign.TheVariants.{Plus, Minus}
 use Rattle.tensor_laws.proofs.Groups as laws
-use Rattle.tensor_laws.proofs.IndexOrder.{index_order}
-use Rattle.tensor_laws.proofs.Unique.{same_free, same_terms, fraction_one}
+use Rattle.tensor_laws.proofs.Prelude.{index_order, same_free, same_terms, fraction_one}
 use Rattle.answer_laws.proofs.DomainStates.{one_state_list}
 use Rattle.magnetic_groups.specs.Sets.{In, IsGroup}
 use Rattle.tensor_action.proofs.DeterminantLaws.{one_down}

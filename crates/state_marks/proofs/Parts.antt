@@ -8,9 +8,8 @@ use Rattle.std.proofs.lemmas.List.{get_or-set_same, get_or-set_other, length-set
 use Rattle.std.proofs.lemmas.Bool.Decides.{nat_tests}
 use Rattle.std.specs.Prelude.{◌==◌, if◌then◌else◌}
 use lib.IntN.{ℤ, pos, negsuc}
-use Rattle.tensor_defs.specs.Lists.{IsRising}
-use Rattle.tensor_defs.specs.Number.{Number, Fraction, Root3, over, add, mul, neg, whole, num_zero, num_one, root_3, value_of, HasParts, PartReaches, ProductReaches}
-use Rattle.tensor_defs.specs.Table.{places_rise}
+use Rattle.tensor_defs.specs.Prelude.{IsRising, Number, Fraction, Root3, over, add, mul, neg, whole, num_zero, num_one, root_3, value_of, HasParts}
+use Rattle.tensor_defs.specs.Prelude.{PartReaches, ProductReaches, places_rise}
 use Rattle.text_defs.specs.NumberTexts.{int_is, is_one}
 use Rattle.number_laws.proofs.NumberLaws.{num_add-zero, num_mul-zero, num_zero-add, num_zero-mul, num_mul-one, num_mul_comm, num_neg-neg}
 use Rattle.exact_frac.specs.Held.{IsHeld, IsHeldAs, zero_over_one}

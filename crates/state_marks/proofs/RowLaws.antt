@@ -1,14 +1,10 @@
 -- The rows of sums that aren't 0.
 --   IsClearing      the sums while those of a row are set to 0
-use Rattle.std.proofs.Common.{◌≡◌, ◌≢◌, ℕ, ◌+◌, ◌<◌, ◌≤◌, ◌⊎◌, inl, inr, List, [], ◌∷◌, ◌++◌, length, map, set, refl, ap, sym, ◌∙◌, subst, arith}
+use Rattle.list_laws.proofs.Kit.{◌≡◌, ◌≢◌, ℕ, ◌+◌, ◌<◌, ◌≤◌, ◌⊎◌, inl, inr, List, [], ◌∷◌, ◌++◌, length, map, refl, ap, sym, ◌∙◌, subst, arith, cases_lt}
+use Rattle.list_laws.proofs.Kit.{nat_tests, get_or-set_same, get_or-set_other, length-set, get_or_push, length_push, get_or-append}
+use Rattle.std.proofs.Common.{set}
 use Rattle.std.specs.Prelude.{IsTrue, nat_lt}
-use Rattle.std.proofs.lemmas.Bool.{cases_lt}
-use Rattle.std.proofs.lemmas.Bool.Decides.{nat_tests}
-use Rattle.std.proofs.lemmas.List.{get_or-set_same, get_or-set_other, length-set, get_or_push, length_push}
-use Rattle.std.proofs.Math.ListN.{get_or-append}
-use Rattle.tensor_defs.specs.Lists.{Each, IsRising}
-use Rattle.tensor_defs.specs.Number.{Root3, IsRoot3, num_zero}
-use Rattle.tensor_defs.specs.StateRows.{root_places_rise}
+use Rattle.tensor_defs.specs.Prelude.{Each, IsRising, Root3, IsRoot3, num_zero, root_places_rise}
 use Rattle.root3_num.specs.Roots.{value_of_root}
 use Rattle.tensor_action.specs.Acting.{zero_root}
 use Rattle.state_marks.specs.declared.rows.RootTerm.{RootTerm}

@@ -2,18 +2,13 @@
 --   root3-value     the number of the parts of a number
 --   factors_tell, both_tell    where some factor isn't the sum; where none is, but some sum that isn't 0 is another
 --   row_is          the terms of the sums are the row of a component in a state
-use Rattle.std.proofs.Common.{◌≡◌, ◌≢◌, ℕ, ◌<◌, ◌^◌, inl, inr, Bool, true, false, List, [], ◌∷◌, length, map, get_or, ap, sym, ◌∙◌, subst}
+use Rattle.list_laws.proofs.Kit.{◌≡◌, ◌≢◌, ℕ, ◌<◌, ◌^◌, inl, inr, Bool, true, false, List, [], ◌∷◌, length, map, get_or, ap, sym, ◌∙◌, subst, get_or-map}
+use Rattle.list_laws.proofs.Kit.{length-map, Contains-get_or}
 use Rattle.std.specs.Prelude.{Contains}
-use Rattle.std.proofs.lemmas.List.{get_or-map, length-map}
-use Rattle.std.proofs.lemmas.List.Elements.{Contains-get_or}
-use Rattle.tensor_defs.specs.Lists.{Each, IsRising}
-use Rattle.tensor_defs.specs.Number.{Number, Root3, IsRoot3, add, mul, num_zero, root_3}
-use Rattle.tensor_defs.specs.Operation.{Operation}
+use Rattle.tensor_defs.specs.Prelude.{Each, IsRising, Number, Root3, IsRoot3, add, mul, num_zero, root_3, Operation, IsStateRow, factor_at, state_row, Table}
+use Rattle.tensor_defs.specs.Prelude.{places_rise, Index, Marks, index_of}
 use Rattle.tensor_defs.specs.StateRows as defs
-use Rattle.tensor_defs.specs.StateRows.{IsStateRow, factor_at, state_row}
 use Rattle.tensor_defs.specs.Table as table
-use Rattle.tensor_defs.specs.Table.{Table, places_rise}
-use Rattle.tensor_defs.specs.Tensor.{Index, Marks, index_of}
 use Rattle.exact_frac.specs.Held.{zero_over_one}
 use Rattle.tensor_laws.proofs.ComponentNumbers.{length-index_of, number-index_of}
 use Rattle.root3_num.specs.Roots.{value_of_root}

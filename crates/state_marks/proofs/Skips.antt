@@ -2,11 +2,8 @@
 --   IsAddingParts   the sums after the first components from which one takes
 --   row_factor      the row of a component of a form is that of its table
 use Rattle.std.proofs.Common.{◌≡◌, ℕ, ◌+◌, ◌<◌, ◌≤◌, ◌^◌, ◌⊎◌, List, length, drop, refl, ap, sym, ◌∙◌, subst, Ok}
-use Rattle.tensor_defs.specs.Number.{Number, Root3, add, mul, num_one, PartReaches, ProductReaches}
-use Rattle.tensor_defs.specs.Operation.{Operation}
-use Rattle.tensor_defs.specs.StateRows.{StateRowGrows}
-use Rattle.tensor_defs.specs.Table.{Table}
-use Rattle.tensor_defs.specs.Tensor.{Index, Marks, index_of, sign}
+use Rattle.tensor_defs.specs.Prelude.{Number, Root3, add, mul, num_one, PartReaches, ProductReaches, Operation, StateRowGrows, Table, Index, Marks, index_of}
+use Rattle.tensor_defs.specs.Prelude.{sign}
 use Rattle.tensor_laws.proofs.ComponentNumbers.{number-index_of}
 use Rattle.reduced_form.specs.declared.forms.Term.{Term}
 use Rattle.reduced_form.specs.Forms.{FormValue, form_table, row_at}

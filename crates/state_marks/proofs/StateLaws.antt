@@ -2,17 +2,12 @@
 --   rows-start, rows-more, rows-end    the rows of the components up to n
 --   grows_same      growth depends on the terms at indices of the rank
 --   told-start, told-more, later-calm    the states from the second on
-use Rattle.std.proofs.Common.{◌≡◌, ℕ, zero, suc, ◌+◌, ◌<◌, ◌≤◌, ◌^◌, inl, inr, Bool, false, List, [], ◌∷◌, ◌++◌, length, take, drop, get_or, ap, sym, ◌∙◌, subst, arith}
+use Rattle.list_laws.proofs.Kit.{◌≡◌, ℕ, zero, suc, ◌+◌, ◌<◌, ◌≤◌, ◌^◌, inl, inr, Bool, false, List, [], ◌∷◌, ◌++◌, length, take, drop, get_or, ap, sym, ◌∙◌}
+use Rattle.list_laws.proofs.Kit.{subst, arith, cases_lt, get_or_push, length_push, get_or-append}
 use Rattle.std.specs.Prelude.{Contains, slice_get, Some}
-use Rattle.std.proofs.lemmas.Bool.{cases_lt}
-use Rattle.std.proofs.lemmas.List.{get_or_push, length_push}
-use Rattle.std.proofs.Math.ListN.{get_or-append}
 use Rattle.list_laws.proofs.Members.{each_map, each_take}
-use Rattle.tensor_defs.specs.Number.{mul, PartReaches, ProductReaches}
-use Rattle.tensor_defs.specs.Operation.{Operation}
-use Rattle.tensor_defs.specs.StateRows.{StateRowGrows, factor_at, state_part}
-use Rattle.tensor_defs.specs.Table.{Table}
-use Rattle.tensor_defs.specs.Tensor.{Index, Marks, coefficient, component_number, index_of, indices, sign}
+use Rattle.tensor_defs.specs.Prelude.{mul, PartReaches, ProductReaches, Operation, StateRowGrows, factor_at, state_part, Table, Index, Marks, coefficient}
+use Rattle.tensor_defs.specs.Prelude.{component_number, index_of, indices, sign}
 use Rattle.tensor_rank.specs.IndexLaws.{component_below_at, index_number_at}
 use Rattle.answer_laws.proofs.Forms.{indices_of_rank}
 use Rattle.tensor_laws.proofs.Agreeing.{sum_of-same}

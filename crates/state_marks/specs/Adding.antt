@@ -2,11 +2,7 @@
 --   AreSummed       for each free component the sum of all parts, none of which grows
 --   IsRow           the row of a component, and whether it differs from that in the table
 use Rattle.std.specs.Prelude.{◌≡◌, ℕ, ◌<◌, Bool, List, length, map}
-use Rattle.tensor_defs.specs.Number.{Root3}
-use Rattle.tensor_defs.specs.Operation.{Operation}
-use Rattle.tensor_defs.specs.StateRows.{IsStateRow, StateRowGrows, state_row}
-use Rattle.tensor_defs.specs.Table.{Table}
-use Rattle.tensor_defs.specs.Tensor.{Index, Marks}
+use Rattle.tensor_defs.specs.Prelude.{Root3, Operation, IsStateRow, StateRowGrows, state_row, Table, Index, Marks}
 use Rattle.state_marks.specs.Sums.{root_term_of, sum_at}
 use Rattle.state_marks.specs.Told.{TellsRow}
 use Rattle.state_marks.specs.declared.rows.RootTerm.{RootTerm}

@@ -3,8 +3,7 @@
 --   AreAlike        the same factors between components of a rank
 -- Source: International Tables D 1.1: the inversion multiplies a polar tensor of rank r by (-1)^r.
 use Rattle.std.specs.Prelude.{◌≡◌, ℕ, zero, suc, length}
-use Rattle.tensor_defs.specs.Operation.{Operation}
-use Rattle.tensor_defs.specs.Tensor.{Index, Marks}
+use Rattle.tensor_defs.specs.Prelude.{Operation, Index, Marks}
 use Rattle.tensor_defs.specs.declared.Sign.{Sign}
 use Rattle.tensor_defs.specs.declared.Sign.TheVariants.{Plus}
 use Rattle.sign_moves.specs.Signs.{times}

@@ -10,12 +10,9 @@
 --   PushesSum       one more of them
 --   TellsSums, TellsFactors, TellsBoth    whether sums and the factors in a row of the form are others
 use Rattle.std.specs.Prelude.{◌≡◌, ◌≢◌, ℕ, ◌<◌, ◌⊎◌, Bool, true, false, List, [], ◌∷◌, ◌++◌, length, get_or, map, slice_set, Ok}
-use Rattle.tensor_defs.specs.Lists.{Each, IsRising}
-use Rattle.tensor_defs.specs.Number.{Number, Root3, add, mul, num_zero, IsRoot3, value_of, PartReaches, ProductReaches}
+use Rattle.tensor_defs.specs.Prelude.{Each, IsRising, Number, Root3, add, mul, num_zero, IsRoot3, value_of, PartReaches, ProductReaches, factor_at}
+use Rattle.tensor_defs.specs.Prelude.{root_places_rise, Table, Tensor}
 use Rattle.tensor_defs.specs.StateRows as defs
-use Rattle.tensor_defs.specs.StateRows.{factor_at, root_places_rise}
-use Rattle.tensor_defs.specs.Table.{Table}
-use Rattle.tensor_defs.specs.Tensor.{Tensor}
 use Rattle.exact_frac.specs.Held.{zero_over_one}
 use Rattle.root3_num.specs.Roots.{value_of_root}
 use Rattle.reduced_form.specs.declared.forms.Term.{Term}

@@ -8,15 +8,9 @@
 --   fault_of        why there is no table, as why there are no rows
 -- Source: International Tables D 3.4.
 use Rattle.std.specs.Prelude.{◌≡◌, ◌≢◌, ℕ, ◌+◌, ◌-◌, ◌<◌, ◌≤◌, ◌↔◌, ◌⊎◌, Bool, true, false, List, [], length, get_or, map, slice_get, Some, IsTrue}
-use Rattle.tensor_defs.specs.Elimination.{Grows}
-use Rattle.tensor_defs.specs.Jahn.{JahnSymbol}
-use Rattle.tensor_defs.specs.Operation.{Operation}
-use Rattle.tensor_defs.specs.Orders.{index_before}
+use Rattle.tensor_defs.specs.Prelude.{Grows, JahnSymbol, Operation, index_before, Distinguishes, IsStateRow, RowsGrow, StateRowGrows, factor_at, state_row}
+use Rattle.tensor_defs.specs.Prelude.{IsState, Fits, Table, Index, Marks, component_number}
 use Rattle.tensor_defs.specs.StateRows as defs
-use Rattle.tensor_defs.specs.StateRows.{Distinguishes, IsStateRow, RowsGrow, StateRowGrows, factor_at, state_row}
-use Rattle.tensor_defs.specs.States.{IsState}
-use Rattle.tensor_defs.specs.Table.{Fits, Table}
-use Rattle.tensor_defs.specs.Tensor.{Index, Marks, component_number}
 use Rattle.reduced_form.specs.declared.memory.SolveFault.{SolveFault}
 use Rattle.reduced_form.specs.declared.memory.SolveFault.TheVariants as solve
 use Rattle.reduced_form.specs.Forms.{FormValue, form_table}

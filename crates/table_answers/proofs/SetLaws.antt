@@ -2,13 +2,8 @@
 use Rattle.std.proofs.Common.{inl, inr}
 use Rattle.std.specs.Prelude.{Bool}
 use Rattle.tensor_laws.proofs.Sets.{same_back}
-use Rattle.tensor_defs.specs.Elimination.{AreRepresentatives, Carrier, Grows, IsDropped}
-use Rattle.tensor_defs.specs.Frames.{IsFramed}
-use Rattle.tensor_defs.specs.Group.{SameSet}
-use Rattle.tensor_defs.specs.Jahn.{AdmitSame, JahnSymbol}
-use Rattle.tensor_defs.specs.Operation.{Operation}
-use Rattle.tensor_defs.specs.Table.{Fits, Table, value_at}
-use Rattle.tensor_defs.specs.Tensor.{Index}
+use Rattle.tensor_defs.specs.Prelude.{AreRepresentatives, Carrier, Grows, IsDropped, IsFramed, SameSet, AdmitSame, JahnSymbol, Operation, Fits, Table}
+use Rattle.tensor_defs.specs.Prelude.{value_at, Index}
 use Rattle.constraint_rows.proofs.InvariantLaws.{fewer_suffice}
 
 -- the same operations leave the same tensors unchanged

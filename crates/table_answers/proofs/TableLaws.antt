@@ -1,17 +1,10 @@
 -- Two tables in index order are the same exactly where their groups leave the same tensors unchanged.
 use Rattle.std.proofs.Common.{◌≡◌, ◌↔◌, ℕ, suc, ◌^◌, ◌<◌, Bool, cond, List, [], ◌∷◌, map, length, get_or, refl, ap, sym, ◌∙◌, subst, arith}
 use Rattle.list_laws.proofs.Members.{each_map}
-use Rattle.tensor_defs.specs.Jahn.{AdmitSame, Bracket, IsInvariant, JahnSymbol, Respects, body_brackets, rank}
-use Rattle.tensor_defs.specs.Number.{Number, neg}
-use Rattle.tensor_defs.specs.Operation.{Operation}
-use Rattle.tensor_defs.specs.Orders.{index_before}
+use Rattle.tensor_defs.specs.Prelude.{AdmitSame, Bracket, IsInvariant, JahnSymbol, Respects, body_brackets, rank, Number, neg, Operation, index_before, Fits}
+use Rattle.tensor_defs.specs.Prelude.{Table, value_at, Agree, Index, Tensor, component_number, index_of}
 use Rattle.tensor_defs.specs.Table as defs
-use Rattle.tensor_defs.specs.Table.{Fits, Table, value_at}
-use Rattle.tensor_defs.specs.Tensor.{Agree, Index, Tensor, component_number, index_of}
-use Rattle.tensor_laws.proofs.Agreeing.{act-agree}
-use Rattle.tensor_laws.proofs.ComponentNumbers.{length-index_of, number-index_of}
-use Rattle.tensor_laws.proofs.IndexOrder.{index_order}
-use Rattle.tensor_laws.proofs.Unique.{one_table}
+use Rattle.tensor_laws.proofs.Prelude.{act-agree, length-index_of, number-index_of, index_order, one_table}
 use Rattle.magnetic_groups.specs.Sets.{In}
 use Rattle.tensor_rank.proofs.ExchangeIndex.{length_exchanged}
 use Rattle.reduced_form.specs.declared.forms.Term.{Term}

@@ -2,15 +2,8 @@
 use Rattle.std.proofs.Common.{◌≡◌, ◌↔◌, ◌⊎◌, ℕ, Bool, true, false, List, ◌++◌, ◌∷◌, [], refl, ap, ◌∙◌, inl, inr}
 use Rattle.std.specs.Prelude.{Result, Ok, Err, IfErr, IfOk, OnOk, IsTrue, codes}
 use Rattle.std.proofs.lemmas.List.{append_assoc}
-use Rattle.tensor_defs.specs.Elimination.{Grows}
-use Rattle.tensor_defs.specs.Jahn.{JahnSymbol}
-use Rattle.tensor_defs.specs.Operation.{Operation}
-use Rattle.tensor_defs.specs.Orders.{index_before}
-use Rattle.tensor_defs.specs.Symbols.{GroupSymbol}
-use Rattle.tensor_defs.specs.Table.{Fits}
-use Rattle.text_defs.specs.AnswerTexts.{same_text, yes_no}
-use Rattle.text_defs.specs.GroupTexts.{group_text}
-use Rattle.text_defs.specs.JahnTexts.{jahn_text}
+use Rattle.tensor_defs.specs.Prelude.{Grows, JahnSymbol, Operation, index_before, GroupSymbol, Fits}
+use Rattle.text_defs.specs.Prelude.{same_text, yes_no, group_text, jahn_text}
 use Rattle.reduced_form.specs.declared.memory.SolveFault.{SolveFault}
 use Rattle.reduced_form.specs.declared.memory.SolveFault.TheVariants.{TooLarge, NoMemory}
 use Rattle.reduced_form.specs.Forms.{FormValue, form_table}

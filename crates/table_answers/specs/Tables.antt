@@ -4,11 +4,7 @@
 --                   them grows; or memory was refused
 -- Source: the definitions of tables and of the elimination.
 use Rattle.std.specs.Prelude.{ℕ, Bool, IsTrue, ◌↔◌, ◌⊎◌, Result, Ok, Err}
-use Rattle.tensor_defs.specs.Elimination.{Grows}
-use Rattle.tensor_defs.specs.Jahn.{AdmitSame, JahnSymbol}
-use Rattle.tensor_defs.specs.Operation.{Operation}
-use Rattle.tensor_defs.specs.Orders.{index_before}
-use Rattle.tensor_defs.specs.Table.{Fits}
+use Rattle.tensor_defs.specs.Prelude.{Grows, AdmitSame, JahnSymbol, Operation, index_before, Fits}
 use Rattle.reduced_form.specs.declared.memory.SolveFault.{SolveFault}
 use Rattle.reduced_form.specs.declared.memory.SolveFault.TheVariants.{TooLarge, NoMemory}
 use Rattle.reduced_form.specs.Forms.{FormValue, form_table}

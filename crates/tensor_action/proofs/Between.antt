@@ -2,12 +2,9 @@
 --   entry_is        the entry at their indices
 --   product-start, product-more, product-end    the product so far, times the coefficient of what is left
 --   within-place, within-more    bounds
-use Rattle.std.proofs.Common.{◌≡◌, ℕ, suc, ◌+◌, ◌-◌, ◌*◌, ◌<◌, ◌≤◌, ◌^◌, length, drop, ap, sym, ◌∙◌, subst, arith, lit<}
-use Rattle.std.proofs.Math.Nat.{pow-le-pow_right, pow-suc}
-use Rattle.std.proofs.lemmas.List.{drop_more, drop_all}
-use Rattle.tensor_defs.specs.Number.{Number, mul, num_one}
-use Rattle.tensor_defs.specs.Operation.{Axis, x1, Operation, entry, value}
-use Rattle.tensor_defs.specs.Tensor.{Index, coefficient, digit}
+use Rattle.list_laws.proofs.Kit.{◌≡◌, ℕ, suc, ◌+◌, ◌-◌, ◌*◌, ◌<◌, ◌≤◌, ◌^◌, length, drop, ap, sym, ◌∙◌, subst, arith, lit<, pow-le-pow_right, pow-suc}
+use Rattle.list_laws.proofs.Kit.{drop_more, drop_all}
+use Rattle.tensor_defs.specs.Prelude.{Number, mul, num_one, Axis, x1, Operation, entry, value, Index, coefficient, digit}
 use Rattle.number_laws.proofs.NumberLaws.{num_mul_assoc, num_mul-one, num_one-mul}
 use Rattle.op_matrix.specs.View.{entry_of, axis}
 use Rattle.op_matrix.specs.declared.entry.Entry as code

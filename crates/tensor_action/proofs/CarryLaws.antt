@@ -3,20 +3,12 @@
 --   carrying-grows    a component whose sum grows
 --   lists_in_turn    a product carries lists as its factors do in turn
 --   grows_always    refusals
-use Rattle.std.proofs.Common.{◌≡◌, ℕ, ◌+◌, ◌<◌, ◌^◌, inl, inr, List, [], ◌∷◌, ◌++◌, length, get_or, ap, sym, ◌∙◌, subst, arith, Result, Ok, Err}
-use Rattle.std.proofs.Math.ListN.{get_or-append}
-use Rattle.std.proofs.lemmas.Bool.{cases_lt}
-use Rattle.std.specs.Result.{IfErr}
-use Rattle.std.proofs.lemmas.List.{get_or_push, length_push}
-use Rattle.tensor_defs.specs.Number.{Root3, mul}
-use Rattle.tensor_defs.specs.Operation.{Operation, IsProduct}
-use Rattle.tensor_defs.specs.StateRows.{sum_of}
-use Rattle.tensor_defs.specs.Tensor.{Index, Tensor, Marks, Agree, act, coefficient, component_number, index_of, indices, sign}
+use Rattle.list_laws.proofs.Kit.{◌≡◌, ℕ, ◌+◌, ◌<◌, ◌^◌, inl, inr, List, [], ◌∷◌, ◌++◌, length, get_or, ap, sym, ◌∙◌, subst, arith, Result, Ok, Err}
+use Rattle.list_laws.proofs.Kit.{get_or-append, cases_lt, IfErr, get_or_push, length_push}
+use Rattle.tensor_defs.specs.Prelude.{Root3, mul, Operation, IsProduct, sum_of, Index, Tensor, Marks, Agree, act, coefficient, component_number, index_of}
+use Rattle.tensor_defs.specs.Prelude.{indices, sign}
 use Rattle.number_laws.proofs.NumberLaws.{num_mul_assoc}
-use Rattle.tensor_laws.proofs.Action.{sum_indices-mul, sum_indices-same}
-use Rattle.tensor_laws.proofs.ActionLaws.{acts_in_turn}
-use Rattle.tensor_laws.proofs.Agreeing.{act-agree}
-use Rattle.tensor_laws.proofs.ComponentNumbers.{length-index_of}
+use Rattle.tensor_laws.proofs.Prelude.{sum_indices-mul, sum_indices-same, acts_in_turn, act-agree, length-index_of}
 use Rattle.root3_num.specs.Roots.{value_of_root}
 use Rattle.tensor_rank.specs.IndexLaws.{component_below_at, index_number_at}
 use Rattle.tensor_action.specs.Acting.{ActGrows, CarriesTo, IsCarriedList, SumGrows, factor, tensor_of, zero_root}

@@ -5,9 +5,7 @@ use lib.IntN.{ℤ, pos, negsuc}
 use lib.Signed.{lt_z}
 use mir.Syntax.{w8}
 use mir.Val.{to_z, of_z}
-use Rattle.tensor_defs.specs.Number.{mul, neg, num_one, whole}
-use Rattle.tensor_defs.specs.Operation.{Operation, value, determinant}
-use Rattle.tensor_defs.specs.Tensor.{Marks, sign, axial_sign, time_sign}
+use Rattle.tensor_defs.specs.Prelude.{mul, neg, num_one, whole, Operation, value, determinant, Marks, sign, axial_sign, time_sign}
 use Rattle.tensor_defs.specs.declared.Sign.{Sign}
 use Rattle.tensor_defs.specs.declared.Sign.TheVariants.{Plus, Minus}
 use Rattle.number_laws.proofs.NumberLaws.{num_mul-one, num_one-mul, num_mul_assoc, num_neg-neg-one}

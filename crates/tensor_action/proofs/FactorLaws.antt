@@ -6,17 +6,13 @@
 --   entry_value, axis-digit    the number of an entry; an axis by its digit
 --   within-weaker    bounds
 --   signed_factor    the sign before a product
-use Rattle.std.proofs.Common.{◌≡◌, ℕ, ◌+◌, ◌-◌, ◌*◌, ◌<◌, ◌≤◌, ◌^◌, inl, inr, refl, ap, sym, ◌∙◌, subst, arith, Result, Ok, Err}
-use Rattle.std.proofs.Math.Nat.{dvd-mul_left, le_of_mul-le-mul_right, mul-le-mul_left}
-use Rattle.std.proofs.lemmas.Int.{unsigned_abs-mul}
-use Rattle.std.proofs.lemmas.Nat.Gcd.{IsGcd-swap, le_of_dvd}
+use Rattle.list_laws.proofs.Kit.{◌≡◌, ℕ, ◌+◌, ◌-◌, ◌*◌, ◌<◌, ◌≤◌, ◌^◌, inl, inr, refl, ap, sym, ◌∙◌, subst, arith, Result, Ok, Err, dvd-mul_left}
+use Rattle.list_laws.proofs.Kit.{le_of_mul-le-mul_right, mul-le-mul_left, unsigned_abs-mul, IsGcd-swap, le_of_dvd, IsOk}
 use Rattle.std.specs.Prelude.{unsigned_abs}
-use Rattle.std.specs.Result.{IsOk}
 use Prim.Native.Nat.{◌∣◌}
 use lib.IntN.{ℤ, pos, negsuc, ◌*ℤ◌}
-use Rattle.tensor_defs.specs.Number.{Number, Fraction, number_of, same_numbers, add, mul, mul_at, neg, whole, half_of, over, root_3, num_zero, num_one, limit, ReachesLimit}
-use Rattle.tensor_defs.specs.Operation.{Axis, x1, x2, x3, Operation, entry, value}
-use Rattle.tensor_defs.specs.Tensor.{digit}
+use Rattle.tensor_defs.specs.Prelude.{Number, Fraction, number_of, same_numbers, add, mul, mul_at, neg, whole, half_of, over, root_3, num_zero, num_one}
+use Rattle.tensor_defs.specs.Prelude.{limit, ReachesLimit, Axis, x1, x2, x3, Operation, entry, value, digit}
 use Rattle.tensor_defs.specs.declared.Sign.{Sign}
 use Rattle.tensor_defs.specs.declared.Sign.TheVariants.{Plus, Minus}
 use Rattle.number_laws.proofs.Gauss.{gauss}

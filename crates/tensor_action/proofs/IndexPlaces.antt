@@ -1,14 +1,9 @@
 -- The indices of a rank by their numbers, and sums over them.
-use Rattle.std.proofs.Common.{◌≡◌, ℕ, zero, suc, ◌+◌, ◌-◌, ◌*◌, ◌<◌, ◌^◌, inl, inr, List, [], ◌∷◌, ◌++◌, length, map, get_or, take, refl, ap, sym, ◌∙◌, subst, arith, length-append}
-use Rattle.std.proofs.Math.ListN.{get_or-append}
-use Rattle.std.proofs.Math.Nat.{pow-suc}
-use Rattle.std.proofs.lemmas.Bool.{cases_lt}
-use Rattle.std.proofs.lemmas.List.{get_or-append_right, get_or-map, length-map, take_more}
+use Rattle.list_laws.proofs.Kit.{◌≡◌, ℕ, zero, suc, ◌+◌, ◌-◌, ◌*◌, ◌<◌, ◌^◌, inl, inr, List, [], ◌∷◌, ◌++◌, length, map, get_or, take, refl, ap, sym, ◌∙◌}
+use Rattle.list_laws.proofs.Kit.{subst, arith, get_or-append, pow-suc, cases_lt, get_or-append_right, get_or-map, length-map, take_more}
+use Rattle.std.proofs.Common.{length-append}
 use Rattle.tensor_laws.proofs.ComponentNumbers.{index_at}
-use Rattle.tensor_defs.specs.Number.{Number, add}
-use Rattle.tensor_defs.specs.Operation.{Axis, x1, x2, x3}
-use Rattle.tensor_defs.specs.StateRows.{sum_of}
-use Rattle.tensor_defs.specs.Tensor.{Index, Tensor, axis_at, index_of, indices, sum_indices}
+use Rattle.tensor_defs.specs.Prelude.{Number, add, Axis, x1, x2, x3, sum_of, Index, Tensor, axis_at, index_of, indices, sum_indices}
 use Rattle.number_laws.proofs.NumberLaws.{num_add-zero, num_zero-add, num_add_assoc}
 
 -- ---- places

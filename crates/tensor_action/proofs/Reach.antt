@@ -9,10 +9,7 @@ use Rattle.std.proofs.Math.Nat.{mul_comm, pow-suc}
 use Rattle.std.proofs.lemmas.Bool.{cases_lt}
 use Rattle.std.proofs.lemmas.List.{drop_more, drop_all, length-drop, length-map, append-nil, map-append, take_more}
 use Rattle.std.proofs.lemmas.Nat.{div-mul-add, mod-mul-add}
-use Rattle.tensor_defs.specs.Lists.{Each}
-use Rattle.tensor_defs.specs.Number.{mul, num_one, num_zero}
-use Rattle.tensor_defs.specs.Operation.{Axis, x1, Operation, value}
-use Rattle.tensor_defs.specs.Tensor.{Index, axis_at, coefficient, digit, index_of}
+use Rattle.tensor_defs.specs.Prelude.{Each, mul, num_one, num_zero, Axis, x1, Operation, value, Index, axis_at, coefficient, digit, index_of}
 use Rattle.number_laws.proofs.NumberLaws.{num_mul-zero, num_mul_comm, num_zero-mul}
 use Rattle.op_matrix.specs.View.{axis}
 use Rattle.tensor_action.proofs.FactorLaws.{axis-digit, within-weaker}

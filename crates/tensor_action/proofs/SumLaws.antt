@@ -2,13 +2,10 @@
 --   root-value, held_calm    0 and numbers that are held
 --   adds-sum        a sum with one more product
 --   IsSummed, summed-start, summed-more, summed-grows, summed-end, summed-calm    the sum of the first n products
-use Rattle.std.proofs.Common.{◌≡◌, ℕ, ◌+◌, ◌<◌, ◌≤◌, ◌^◌, ◌⊎◌, inl, inr, take, ap, sym, ◌∙◌, subst, arith, lit<, Result, Ok, Err}
-use Rattle.std.proofs.lemmas.Bool.{cases_lt}
-use Rattle.std.proofs.lemmas.List.{take_all}
+use Rattle.list_laws.proofs.Kit.{◌≡◌, ℕ, ◌+◌, ◌<◌, ◌≤◌, ◌^◌, ◌⊎◌, inl, inr, take, ap, sym, ◌∙◌, subst, arith, lit<, Result, Ok, Err, cases_lt, take_all}
 use lib.IntN.{pos}
-use Rattle.tensor_defs.specs.Number.{Number, Root3, add, mul, whole, num_zero, root_3, HasParts, ReachesLimit, PartReaches, ProductReaches}
-use Rattle.tensor_defs.specs.StateRows.{sum_of}
-use Rattle.tensor_defs.specs.Tensor.{Index, Tensor, component_number, index_of, indices}
+use Rattle.tensor_defs.specs.Prelude.{Number, Root3, add, mul, whole, num_zero, root_3, HasParts, ReachesLimit, PartReaches, ProductReaches, sum_of, Index}
+use Rattle.tensor_defs.specs.Prelude.{Tensor, component_number, index_of, indices}
 use Rattle.number_laws.proofs.NumberLaws.{num_add-zero, num_mul-zero, num_zero-mul}
 use Rattle.tensor_laws.proofs.ComponentNumbers.{length-index_of}
 use Rattle.exact_frac.specs.Held.{IsHeldAs, zero_over_one}

@@ -2,14 +2,10 @@
 --   IsWalking, walk-start, walk-more, walk-grows, walk-end    sums for tensors of a family, after the first parts
 --   part-factor     the factor of a part with a sign
 --   read_at         the component of a number in a list
-use Rattle.std.proofs.Common.{◌≡◌, ℕ, zero, suc, ◌+◌, ◌-◌, ◌<◌, ◌≤◌, ◌^◌, ◌⊎◌, inl, inr, List, [], ◌∷◌, length, take, drop, get_or, ap, sym, ◌∙◌, subst, arith, Ok}
-use Rattle.std.proofs.lemmas.Bool.{cases_lt}
-use Rattle.std.proofs.lemmas.List.{drop_more, drop_all, get_or_read}
-use Rattle.tensor_defs.specs.Lists.{Each}
-use Rattle.tensor_defs.specs.Number.{Number, Root3, add, mul, num_one, num_zero, PartReaches, ProductReaches}
-use Rattle.tensor_defs.specs.Operation.{Operation}
-use Rattle.tensor_defs.specs.StateRows.{sum_of}
-use Rattle.tensor_defs.specs.Tensor.{Index, Tensor, Marks, coefficient, index_of, indices, sign}
+use Rattle.list_laws.proofs.Kit.{◌≡◌, ℕ, zero, suc, ◌+◌, ◌-◌, ◌<◌, ◌≤◌, ◌^◌, ◌⊎◌, inl, inr, List, [], ◌∷◌, length, take, drop, get_or, ap, sym, ◌∙◌, subst}
+use Rattle.list_laws.proofs.Kit.{arith, Ok, cases_lt, drop_more, drop_all, get_or_read}
+use Rattle.tensor_defs.specs.Prelude.{Each, Number, Root3, add, mul, num_one, num_zero, PartReaches, ProductReaches, Operation, sum_of, Index, Tensor, Marks}
+use Rattle.tensor_defs.specs.Prelude.{coefficient, index_of, indices, sign}
 use Rattle.tensor_defs.specs.declared.Sign.{Sign}
 use Rattle.number_laws.proofs.NumberLaws.{num_add-zero, num_mul-zero, num_zero-mul}
 use Rattle.tensor_laws.proofs.ComponentNumbers.{number-index_of}

@@ -9,10 +9,8 @@
 --   AddsPart        a sum with one more product, or the refusal exactly where the product or the new sum reaches the limit
 -- Source: International Tables D 1.1. The limit is this project's own.
 use Rattle.std.specs.Prelude.{◌≡◌, ℕ, ◌<◌, ◌⊎◌, List, length, take, get_or, Result, Ok, Err}
-use Rattle.tensor_defs.specs.Number.{Number, add, mul, Root3, PartReaches, ProductReaches}
-use Rattle.tensor_defs.specs.Operation.{Operation}
-use Rattle.tensor_defs.specs.StateRows.{sum_of}
-use Rattle.tensor_defs.specs.Tensor.{Index, Tensor, Marks, act, coefficient, component_number, index_of, indices, sign}
+use Rattle.tensor_defs.specs.Prelude.{Number, add, mul, Root3, PartReaches, ProductReaches, Operation, sum_of, Index, Tensor, Marks, act, coefficient}
+use Rattle.tensor_defs.specs.Prelude.{component_number, index_of, indices, sign}
 use Rattle.exact_frac.specs.Held.{zero_over_one}
 use Rattle.root3_num.specs.Roots.{value_of_root}
 use Rattle.root3_num.specs.declared.root.TooLarge.{TooLarge}

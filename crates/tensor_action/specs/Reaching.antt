@@ -8,10 +8,7 @@
 --   Extends         the parts with one index more in front, up to those of a column
 -- Source: International Tables D 1.1.
 use Rattle.std.specs.Prelude.{◌≡◌, ℕ, ◌+◌, ◌*◌, ◌<◌, ◌≤◌, ◌^◌, List, [], ◌∷◌, length, map, get_or}
-use Rattle.tensor_defs.specs.Lists.{Each}
-use Rattle.tensor_defs.specs.Number.{num_zero}
-use Rattle.tensor_defs.specs.Operation.{Axis, Operation}
-use Rattle.tensor_defs.specs.Tensor.{Index, coefficient, index_of}
+use Rattle.tensor_defs.specs.Prelude.{Each, num_zero, Axis, Operation, Index, coefficient, index_of}
 use Rattle.tensor_defs.specs.declared.Sign.TheVariants.{Plus}
 use Rattle.tensor_action.specs.Factors.{IsWithin, product_number}
 use Rattle.tensor_action.specs.declared.parts.Part.{Part}

@@ -3,9 +3,7 @@
 --   ListsActInTurn         on lists of all components: what k makes of a list has the numbers that g makes of what h makes of it
 -- Source: facts of matrices.
 use Rattle.std.specs.Prelude.{◌≡◌, ℕ, ◌<◌, List, get_or}
-use Rattle.tensor_defs.specs.Number.{Root3}
-use Rattle.tensor_defs.specs.Operation.{Operation, IsProduct}
-use Rattle.tensor_defs.specs.Tensor.{Tensor, Marks, act, index_of}
+use Rattle.tensor_defs.specs.Prelude.{Root3, Operation, IsProduct, Tensor, Marks, act, index_of}
 use Rattle.root3_num.specs.Roots.{value_of_root}
 use Rattle.tensor_action.specs.Acting.{IsCarriedList, zero_root}
 

@@ -3,8 +3,7 @@ use Rattle.std.proofs.Common.{◌≡◌, ap, sym, ◌∙◌}
 use mathlib.Core.Bool.{xor}
 use Rattle.list_laws.proofs.Tests.{xor_assoc}
 use Rattle.number_laws.proofs.NumberLaws.{ring}
-use Rattle.tensor_defs.specs.Number.{Number, add, mul}
-use Rattle.tensor_defs.specs.Operation.{x1, x2, x3, sum_axes, Operation, value, IsProduct}
+use Rattle.tensor_defs.specs.Prelude.{Number, add, mul, x1, x2, x3, sum_axes, Operation, value, IsProduct}
 
 -- the sums of a product of three, in another order
 pub exchange : (a b c p q r s t u v w x y1 y2 y3 : Number) →

@@ -4,8 +4,7 @@
 use Rattle.std.proofs.Common.{◌≡◌, sym}
 use Rattle.list_laws.proofs.Tests.{xor_plain, plain_xor}
 use Rattle.number_laws.proofs.NumberLaws.{num_add-zero, num_zero-add, num_mul-one, num_mul-zero}
-use Rattle.tensor_defs.specs.Number.{Number, mul}
-use Rattle.tensor_defs.specs.Operation.{Axis, x1, x2, x3, Operation, value, sum_axes, IsProduct, identity}
+use Rattle.tensor_defs.specs.Prelude.{Number, mul, Axis, x1, x2, x3, Operation, value, sum_axes, IsProduct, identity}
 use Rattle.tensor_laws.proofs.ActionLaws.{half_of_two, half_of_none, pick}
 
 pub one_times : (g : Operation) → IsProduct identity g g

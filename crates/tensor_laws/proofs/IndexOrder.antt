@@ -1,9 +1,7 @@
 -- Index order is a strict order.
 use Rattle.std.proofs.Common.{◌≡◌, ◌≢◌, ℕ, [], ◌∷◌, length, refl, ap, sym, ◌∙◌, arith, ◌⊎◌, inl, inr}
 use Rattle.std.specs.Prelude.{IsTrue}
-use Rattle.tensor_defs.specs.Operation.{x1, x2, x3}
-use Rattle.tensor_defs.specs.Orders.{index_before, IsOrder}
-use Rattle.tensor_defs.specs.Tensor.{Index}
+use Rattle.tensor_defs.specs.Prelude.{x1, x2, x3, index_before, IsOrder, Index}
 
 irreflexive : (c : Index) → ¬ IsTrue (index_before c c)
 irreflexive [] h = cc

@@ -3,8 +3,7 @@
 --   same_own, same_told        `same_index` is true of an index and itself, and only there
 use Rattle.std.proofs.Common.{◌≡◌, ◌≢◌, true, [], ◌∷◌, refl, ap, ◌⊎◌, inl, inr}
 use Rattle.list_laws.proofs.Lists.{heads, tails}
-use Rattle.tensor_defs.specs.Operation.{Axis, x1, x2, x3}
-use Rattle.tensor_defs.specs.Tensor.{Index, same_index}
+use Rattle.tensor_defs.specs.Prelude.{Axis, x1, x2, x3, Index, same_index}
 
 pub axis_cases : (i j : Axis) → (i ≡ j) ⊎ (i ≢ j)
 axis_cases x1 x1 = inl refl

@@ -15,3 +15,4 @@ pub mod Indices
 pub mod Sets
 pub mod States
 pub mod Groups
+pub mod Prelude

@@ -4,11 +4,7 @@
 use Rattle.std.proofs.Common.{List}
 use Rattle.std.specs.Prelude.{Option, Some, None}
 use Rattle.list_laws.proofs.Members.{each_map}
-use Rattle.tensor_defs.specs.Group.{InGroup, SameSet}
-use Rattle.tensor_defs.specs.Lists.{Each}
-use Rattle.tensor_defs.specs.Names.{IsNamed, IsNameOf}
-use Rattle.tensor_defs.specs.Operation.{Operation}
-use Rattle.tensor_defs.specs.Symbols.{GroupSymbol}
+use Rattle.tensor_defs.specs.Prelude.{InGroup, SameSet, Each, IsNamed, IsNameOf, Operation, GroupSymbol}
 
 pub same_back : (S T : Operation → Type 0) → SameSet S T → SameSet T S
 same_back S T e k = ((e k).1, (e k).0)

@@ -8,16 +8,11 @@
 --   NumbersAreIndices    numbers and indices of components are inverse to each other
 --   three_z, WordsDecide, RowsDecide    a component list is unchanged by the threefold rotation about z exactly
 --                     where the sums of words, or their even and odd rows, vanish whose count isn't divisible by 3
-use Rattle.std.specs.Prelude.{◌≡◌, ℕ, ◌+◌, ◌*◌, ◌%◌, Bool, false, List, length, Contains, ◌↔◌, ◌^◌}
-use Rattle.tensor_defs.specs.Jahn.{JahnSymbol, rank, IsInvariant}
-use Rattle.tensor_defs.specs.Number.{Number, mul, num_zero}
-use Rattle.tensor_defs.specs.Operation.{Operation, IsProduct, identity, matrix, one, nought, minus_half, h, minus_h}
-use Rattle.tensor_defs.specs.Orders.{IsOrder, index_before, block_before}
-use Rattle.tensor_defs.specs.Table.{Table, Fits}
-use Rattle.tensor_defs.specs.Tensor.{Agree, sum_indices, Index, Tensor, Marks, act, component_number, index_of}
-use Rattle.tensor_defs.specs.Words.{Word, even_row, odd_row, plus_count, minus_count}
+use Rattle.std.specs.Prelude.{◌≡◌, ℕ, ◌+◌, ◌*◌, ◌%◌, Bool, false, List, length, Contains, ◌↔◌, ◌^◌, ◌<◌}
+use Rattle.tensor_defs.specs.Prelude.{JahnSymbol, rank, IsInvariant, Number, mul, num_zero, Operation, IsProduct, identity, matrix, one, nought, minus_half}
+use Rattle.tensor_defs.specs.Prelude.{h, minus_h, IsOrder, index_before, block_before, Table, Fits, Agree, sum_indices, Index, Tensor, Marks, act}
+use Rattle.tensor_defs.specs.Prelude.{component_number, index_of, Word, even_row, odd_row, plus_count, minus_count}
 use Rattle.tensor_laws.specs.WordSums.{Vanish}
-use Rattle.std.specs.Prelude.{◌<◌}
 
 -- a product acts as its factors in turn
 abbrev pub ActsInTurn : Type 0

@@ -3,28 +3,19 @@
 --       an exchange of index lists
 --   IsListed, listed_left, listed_right, two_listed, each_exchange, numbered ..
 --       the list of the exchanges of brackets
-use Rattle.std.proofs.Common.{◌≡◌, ℕ, zero, suc, ◌+◌, ◌-◌, ◌*◌, ◌^◌, ◌<◌, ◌≤◌, Bool, true, false, cond, List, [], ◌∷◌, ◌++◌, length, take, drop, refl, ap, sym, ◌∙◌, arith, subst, inl, inr, ◌⊎◌}
+use Rattle.list_laws.proofs.Kit.{◌≡◌, ℕ, zero, suc, ◌+◌, ◌-◌, ◌*◌, ◌^◌, ◌<◌, ◌≤◌, Bool, true, false, cond, List, [], ◌∷◌, ◌++◌, length, take, drop, refl, ap}
+use Rattle.list_laws.proofs.Kit.{sym, ◌∙◌, arith, subst, inl, inr, ◌⊎◌, cases_lt, nat_tests, get_or_append_left, get_or-append-add, length-take-le}
 use Rattle.std.specs.Prelude.{Contains}
-use Rattle.std.proofs.lemmas.Bool.{cases_lt}
-use Rattle.std.proofs.lemmas.Bool.Decides.{nat_tests}
-use Rattle.tensor_defs.specs.Number.{Number, neg}
+use Rattle.tensor_defs.specs.Prelude.{Number, neg, x1, Index, Tensor, axis_place, component_number, index_of, Each, Bracket, IsExchange, Respects}
 use Rattle.number_laws.proofs.NumberLaws.{num_neg-neg}
-use Rattle.tensor_defs.specs.Operation.{x1}
-use Rattle.tensor_defs.specs.Tensor.{Index, Tensor, axis_place, component_number, index_of}
-use Rattle.tensor_defs.specs.Lists.{Each}
-use Rattle.tensor_defs.specs.Jahn.{Bracket, IsExchange, Respects}
 use Rattle.tensor_laws.proofs.ComponentNumbers.{length-index_of, number-index_of}
 use Rattle.tensor_defs.specs.declared.Sign.TheVariants.{Plus, Minus}
-use Rattle.sign_moves.specs.Signs.{signed}
-use Rattle.sign_moves.specs.Moves.{IsKept}
+use Rattle.sign_moves.specs.Prelude.{signed, IsKept}
 use Rattle.tensor_rank.specs.declared.exchanges.Exchange.{Exchange}
-use Rattle.tensor_rank.specs.Digits.{digit_of}
-use Rattle.tensor_rank.specs.Exchanges.{partner, exchanged, sign_of_exchange, exchange_moves}
-use Rattle.tensor_rank.specs.Within.{IsWithin, AllWithin, exchange_at}
+use Rattle.tensor_rank.specs.Prelude.{digit_of, partner, exchanged, sign_of_exchange, exchange_moves, IsWithin, AllWithin, exchange_at, exchange_of}
+use Rattle.tensor_rank.specs.Prelude.{with_earlier, each_two, exchanges_of, nth, index_number_at, component_below_at, digit_list, index_of_digits}
 use Rattle.tensor_rank.proofs.ExchangeLaws.{partner_below}
-use Rattle.tensor_rank.specs.Symmetry.{exchange_of, with_earlier, each_two, exchanges_of}
-use Rattle.tensor_rank.specs.IndexLaws.{nth, index_number_at, component_below_at, digit_list, index_of_digits}
-use Rattle.std.proofs.lemmas.List.{get_or_append_left, get_or-append-add, take-append-drop, length-append, length-take-le, length-drop, append_assoc}
+use Rattle.std.proofs.lemmas.List.{take-append-drop, length-append, length-drop, append_assoc}
 
 -- ---- parts of a list
 in_first : (a rest : Index) (p : ℕ) → p < length a → nth (a ++ rest) p ≡ nth a p

@@ -1,14 +1,10 @@
 -- An exchange of two blocks is its own inverse.
-use Rattle.std.proofs.Common.{◌≡◌, ℕ, ◌+◌, ◌*◌, ◌<◌, ◌≤◌, ◌^◌, add-one, List, zero, suc, arith, lit≤, ap, sym, subst, ◌∙◌, refl}
-use Rattle.std.proofs.lemmas.Bool.Decides.{nat_tests}
+use Rattle.list_laws.proofs.Kit.{◌≡◌, ℕ, ◌+◌, ◌*◌, ◌<◌, ◌≤◌, ◌^◌, add-one, List, zero, suc, arith, lit≤, ap, sym, subst, ◌∙◌, refl, nat_tests}
 use Rattle.tensor_rank.specs.declared.exchanges.Exchange.{Exchange}
-use Rattle.tensor_rank.specs.Digits.{digit_of, number_of}
-use Rattle.tensor_rank.specs.DigitLaws.{number_of-same, number_of-below, number_of-digits, digit_of-number}
-use Rattle.sign_moves.specs.Moves.{IsReversible, Reaches, stay, move}
-use Rattle.sign_moves.specs.Signs.{times}
+use Rattle.tensor_rank.specs.Prelude.{digit_of, number_of, number_of-same, number_of-below, number_of-digits, digit_of-number, IsWithin, AllWithin}
+use Rattle.tensor_rank.specs.Prelude.{exchange_at, partner, exchanged, exchange_moves, sign_of_exchange}
+use Rattle.sign_moves.specs.Prelude.{IsReversible, Reaches, stay, move, times}
 use Rattle.tensor_defs.specs.declared.Sign.TheVariants.{Plus}
-use Rattle.tensor_rank.specs.Within.{IsWithin, AllWithin, exchange_at}
-use Rattle.tensor_rank.specs.Exchanges.{partner, exchanged, exchange_moves, sign_of_exchange}
 
 pub partner_below : (r : ℕ) (e : Exchange) → IsWithin r e → (p : ℕ) → p < r → partner e p < r
 partner_below r e h p below = grind (arith, nat_tests, h.apart, h.inside)

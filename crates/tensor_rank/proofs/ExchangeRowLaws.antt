@@ -2,26 +2,17 @@
 --   digit_front, digit_last    the digits of a component with one more
 --   exchange_row    the row of an exchange from those of its places
 --   front_small_parts, front_row    the same at the first places
-use Rattle.std.proofs.Common.{◌≡◌, ◌≢◌, ℕ, ◌+◌, ◌-◌, ◌*◌, ◌/◌, ◌%◌, ◌^◌, ◌<◌, ◌≤◌, cond, List, [], ◌∷◌, zero, suc, length, get_or, arith, ap, sym, ◌∙◌, refl, subst, inl, inr}
+use Rattle.list_laws.proofs.Kit.{◌≡◌, ◌≢◌, ℕ, ◌+◌, ◌-◌, ◌*◌, ◌/◌, ◌%◌, ◌^◌, ◌<◌, ◌≤◌, cond, List, [], ◌∷◌, zero, suc, length, get_or, arith, ap, sym, ◌∙◌}
+use Rattle.list_laws.proofs.Kit.{refl, subst, inl, inr, cases_lt, lt-ltb, le-ltb, eqb_tells, div-div-eq-div-mul, div-one, pow-succ', take, get_or-take}
+use Rattle.list_laws.proofs.Kit.{length-take-le}
 use Rattle.std.specs.Prelude.{nat_lt}
-use Rattle.std.proofs.lemmas.Bool.{cases_lt, lt-ltb, le-ltb}
-use Rattle.std.proofs.lemmas.Bool.Decides.{eqb_tells}
-use Rattle.std.proofs.Math.Nat.{div-div-eq-div-mul, div-one, pow-succ'}
 use Rattle.tensor_defs.specs.declared.Sign.{Sign}
 use Rattle.tensor_defs.specs.declared.Sign.TheVariants.{Plus}
 use Rattle.sign_moves.specs.declared.tabled.Step.{Step}
-use Rattle.sign_moves.specs.Signs.{times, times_plus}
-use Rattle.sign_moves.specs.Tabling.{step_at}
-use Rattle.sign_moves.specs.Digits.{part_at, AreParts, digit_step, IsDigitRow}
+use Rattle.sign_moves.specs.Prelude.{times, times_plus, step_at, part_at, AreParts, digit_step, IsDigitRow}
 use Rattle.tensor_rank.specs.declared.exchanges.Exchange.{Exchange}
-use Rattle.tensor_rank.specs.Digits.{digit_of, number_of}
-use Rattle.tensor_rank.specs.DigitLaws.{number_of-same}
-use Rattle.tensor_rank.specs.Within.{IsWithin}
-use Rattle.tensor_rank.specs.Exchanges.{partner, exchanged, sign_of_exchange}
-use Rattle.tensor_rank.specs.ExchangeRows.{exchange_part, IsExchangeRow}
+use Rattle.tensor_rank.specs.Prelude.{digit_of, number_of, number_of-same, IsWithin, partner, exchanged, sign_of_exchange, exchange_part, IsExchangeRow}
 use Rattle.tensor_rank.proofs.ExchangeLaws.{partner_below, partner-partner, power_small}
-use Rattle.std.proofs.Common.{take}
-use Rattle.std.proofs.lemmas.List.{get_or-take, length-take-le}
 
 -- one digit that is greater makes a number that is greater by it
 number_of-more : (r p d : ℕ) (f g : ℕ → ℕ) → p < r → ((q : ℕ) → q < r → q ≢ p → g q ≡ f q) → g p ≡ f p + d → number_of r g ≡ number_of r f + d * 3 ^ (r - 1 - p)

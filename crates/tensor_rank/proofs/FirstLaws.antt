@@ -2,11 +2,9 @@
 use Rattle.std.proofs.Common.{◌≡◌, ℕ, ◌+◌, ◌^◌, ◌<◌, ◌≤◌, Bool, true, false, List, refl, ap, sym, ◌∙◌, arith, subst, inl, inr}
 use Rattle.std.specs.Prelude.{nat_lt}
 use Rattle.std.proofs.lemmas.Bool.{cases_lt, le-ltb, cases_Bool}
-use Rattle.sign_moves.specs.Classes.{first_at}
-use Rattle.sign_moves.specs.Firsts.{IsStrict}
+use Rattle.sign_moves.specs.Prelude.{first_at, IsStrict}
 use Rattle.sign_moves.specs.declared.classes.Entry.{Entry}
-use Rattle.tensor_rank.specs.Orders.{Ordering, before_at, is_by_index}
-use Rattle.tensor_rank.specs.Shapes.{IsFirstBelow}
+use Rattle.tensor_rank.specs.Prelude.{Ordering, before_at, is_by_index, IsFirstBelow}
 use Rattle.tensor_rank.proofs.OrderLaws.{index_order_at, by_index}
 
 module _ {n : ℕ} {es : List Entry} {before : ℕ → ℕ → Bool} where

@@ -3,19 +3,15 @@
 --   blocks_next, blocks_before    blocks from a place on
 --   spell_next, spell_below, below_sixth, keys_tell, spelled_order    block order is the order of what block numbers spell
 --   front_one, front_two, pair_same, pair_other, by_index    the number of one block
-use Rattle.std.proofs.Common.{◌≡◌, ◌≢◌, ℕ, zero, suc, ◌+◌, ◌-◌, ◌*◌, ◌^◌, ◌<◌, ◌≤◌, Bool, true, false, lit<, List, [], ◌∷◌, ◌++◌, length, get_or, drop, drop-cons, add-one, map, refl, ap, sym, ◌∙◌, arith, subst, inl, inr}
+use Rattle.list_laws.proofs.Kit.{◌≡◌, ◌≢◌, ℕ, zero, suc, ◌+◌, ◌-◌, ◌*◌, ◌^◌, ◌<◌, ◌≤◌, Bool, true, false, lit<, List, [], ◌∷◌, ◌++◌, length, get_or, drop}
+use Rattle.list_laws.proofs.Kit.{drop-cons, add-one, map, refl, ap, sym, ◌∙◌, arith, subst, inl, inr, cases_lt, lt-ltb, le-ltb, nat_tests, drop_more}
+use Rattle.list_laws.proofs.Kit.{drop-drop, pow-suc, pow-le-pow_right}
 use Rattle.std.specs.Prelude.{nat_lt}
-use Rattle.std.proofs.lemmas.Bool.{cases_lt, lt-ltb, le-ltb}
-use Rattle.std.proofs.lemmas.Bool.Decides.{nat_tests}
-use Rattle.std.proofs.lemmas.List.{length-drop, drop_more, drop-drop}
-use Rattle.std.proofs.Math.Nat.{pow-suc, pow-le-pow_right}
-use Rattle.tensor_defs.specs.Lists.{Each, lexicographic}
-use Rattle.tensor_defs.specs.Operation.{x1, x2, x3, Axis}
-use Rattle.tensor_defs.specs.Orders.{index_before, block_before, block_numbers, pair_number}
-use Rattle.tensor_defs.specs.Tensor.{Index, digit, component_number, index_of}
+use Rattle.std.proofs.lemmas.List.{length-drop}
+use Rattle.tensor_defs.specs.Prelude.{Each, lexicographic, x1, x2, x3, Axis, index_before, block_before, block_numbers, pair_number, Index, digit}
+use Rattle.tensor_defs.specs.Prelude.{component_number, index_of}
 use Rattle.tensor_laws.proofs.ComponentNumbers.{number_below, length-index_of, number-index_of}
-use Rattle.tensor_rank.specs.Orders.{Ordering, ByIndex, ByBlocks, IsBlock, AreBlocks, total, front_number, pair_of, is_by_index, spell, spelled_before}
-use Rattle.tensor_rank.specs.IndexLaws.{nth}
+use Rattle.tensor_rank.specs.Prelude.{Ordering, ByIndex, ByBlocks, IsBlock, AreBlocks, total, front_number, pair_of, is_by_index, spell, spelled_before, nth}
 
 -- ---- index order is the order of component numbers
 low_high : (a b p q m k : ℕ) → a < b → b < 3 → p ≡ q → m < p → nat_lt (a * p + m) (b * q + k) ≡ true

@@ -2,32 +2,23 @@
 --   own_exchanges, own_moves, Lands, carried_join, ReachesIndex, carried_reaches ..
 --       steps along exchanges of a symbol are moves of component numbers
 --   entry_is, first_of_below, none_told, some_told    what is read of a table
-use Rattle.std.proofs.Common.{◌≡◌, ℕ, zero, suc, ◌^◌, ◌<◌, Bool, true, false, List, [], ◌∷◌, ◌++◌, length, get_or, refl, ap, sym, ◌∙◌, arith, subst}
+use Rattle.list_laws.proofs.Kit.{◌≡◌, ℕ, zero, suc, ◌^◌, ◌<◌, Bool, true, false, List, [], ◌∷◌, ◌++◌, length, get_or, refl, ap, sym, ◌∙◌, arith, subst}
+use Rattle.list_laws.proofs.Kit.{get_or_default, both_ways}
 use Rattle.std.specs.Prelude.{Contains, Some, None, ◌↔◌}
-use Rattle.tensor_defs.specs.Jahn.{JahnSymbol, Bracket, rank, body_brackets, HasSymmetry}
-use Rattle.tensor_defs.specs.Tensor.{Index, Tensor, component_number, index_of}
+use Rattle.tensor_defs.specs.Prelude.{JahnSymbol, Bracket, rank, body_brackets, HasSymmetry, Index, Tensor, component_number, index_of, Each}
 use Rattle.tensor_defs.specs.declared.Sign.{Sign}
 use Rattle.tensor_defs.specs.declared.Sign.TheVariants.{Plus}
 use Rattle.tensor_laws.proofs.ComponentNumbers.{length-index_of, number-index_of}
 use Rattle.sign_moves.specs.declared.classes.Entry.{Entry}
-use Rattle.sign_moves.specs.Classes.{IsClassTable, IsFirstOfClass, entry_at, first_at, sign_at, vanishes_at}
-use Rattle.sign_moves.specs.Moves.{Moves, IsReversible, IsKept, Reaches, stay, move, IsForced, IsFirst}
-use Rattle.sign_moves.specs.Signs.{times}
+use Rattle.sign_moves.specs.Prelude.{IsClassTable, IsFirstOfClass, entry_at, first_at, sign_at, vanishes_at, Moves, IsReversible, IsKept, Reaches, stay, move}
+use Rattle.sign_moves.specs.Prelude.{IsForced, IsFirst, times}
 use Rattle.sign_moves.proofs.FirstLaws.{tables_tell}
 use Rattle.sign_moves.proofs.ClassLaws.{reached_first}
 use Rattle.sign_moves.proofs.JoinedLaws.{kept_again}
-use Rattle.std.proofs.lemmas.List.{get_or_default}
-use Rattle.std.proofs.lemmas.Bool.{both_ways}
-use Rattle.tensor_defs.specs.Lists.{Each}
 use Rattle.tensor_rank.proofs.ExchangeLaws.{exchanged_below}
 use Rattle.tensor_rank.specs.declared.exchanges.Exchange.{Exchange}
-use Rattle.tensor_rank.specs.Carried.{Carried, rests, steps, Exchanges, IsZeroAt, IsFirstCarried, TellsClass}
-use Rattle.tensor_rank.specs.Exchanges.{exchange_moves, exchanged}
-use Rattle.tensor_rank.specs.IndexLaws.{index_number_at}
-use Rattle.tensor_rank.specs.Orders.{Ordering, before_of, before_at}
-use Rattle.tensor_rank.specs.Shapes.{IsFirstBelow}
-use Rattle.tensor_rank.specs.Symmetry.{exchange_of, each_two, exchanges_of}
-use Rattle.tensor_rank.specs.Within.{AllWithin, IsWithin}
+use Rattle.tensor_rank.specs.Prelude.{Carried, rests, steps, Exchanges, IsZeroAt, IsFirstCarried, TellsClass, exchange_moves, exchanged, index_number_at}
+use Rattle.tensor_rank.specs.Prelude.{Ordering, before_of, before_at, IsFirstBelow, exchange_of, each_two, exchanges_of, AllWithin, IsWithin}
 use Rattle.tensor_rank.proofs.ExchangeIndex.{numbered, symmetric_kept, kept_symmetric, length_exchanged, its_exchange, exchange_index, can_exchange, exchange_lands, all_from, each_exchange, IsListed, listed_left, listed_right, two_listed}
 
 -- ---- steps along exchanges of a symbol are moves of component numbers

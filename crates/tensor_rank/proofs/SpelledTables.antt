@@ -1,11 +1,9 @@
 -- What the numbers of the blocks of a Voigt table spell, by computing.
 --   pair_spelled, vector_pair_spelled, pair_vector_spelled, two_pairs_spelled    the tables of the code
 --   one_size        a list of one size
-use Rattle.std.proofs.Common.{◌≡◌, ℕ, ◌<◌, List, [], ◌∷◌, length, get_or, map, refl, subst, arith}
-use Rattle.std.specs.List.{range_with_len}
-use Rattle.std.proofs.lemmas.List.FromFn.{get_or-map-range_with_len, length-map-range_with_len}
-use Rattle.tensor_defs.specs.Orders.{block_numbers}
-use Rattle.tensor_defs.specs.Tensor.{index_of}
+use Rattle.list_laws.proofs.Kit.{◌≡◌, ℕ, ◌<◌, List, [], ◌∷◌, length, get_or, map, refl, subst, arith, range_with_len, get_or-map-range_with_len}
+use Rattle.list_laws.proofs.Kit.{length-map-range_with_len}
+use Rattle.tensor_defs.specs.Prelude.{block_numbers, index_of}
 use Rattle.tensor_rank.specs.Orders.{AreBlocks, AreSpelled, spell}
 use Rattle.tensor_rank.specs.declared.orders.TheConstants.{PAIR, VECTOR_PAIR, PAIR_VECTOR, TWO_PAIRS}
 

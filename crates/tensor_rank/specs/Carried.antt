@@ -7,9 +7,7 @@
 --   TellsClass      none where each list of the set is zero, else that first component and the sign
 use Rattle.std.specs.Prelude.{◌≡◌, ℕ, Bool, Option, IsNone, IfSome, IsTrue, ◌↔◌, Contains}
 use Rattle.tensor_defs.specs.declared.Sign.{Sign}
-use Rattle.tensor_defs.specs.Jahn.{JahnSymbol, Bracket, rank, body_brackets, IsExchange}
-use Rattle.tensor_defs.specs.Number.{num_zero}
-use Rattle.tensor_defs.specs.Tensor.{Index, Tensor, index_of}
+use Rattle.tensor_defs.specs.Prelude.{JahnSymbol, Bracket, rank, body_brackets, IsExchange, num_zero, Index, Tensor, index_of}
 use Rattle.sign_moves.specs.Signs.{signed}
 
 pub data Carried (Step : Index → Index → Type 0) : Index → Index → Type 0 where

@@ -6,8 +6,7 @@
 use Rattle.std.specs.Prelude.{◌≡◌, ℕ, ◌+◌, ◌*◌, ◌^◌, ◌<◌, [], ◌∷◌, length, get_or, refl}
 use Rattle.std.proofs.Common.{zero, suc, ap, sym, ◌∙◌, arith, subst}
 use Rattle.std.proofs.Math.Nat.{pow-suc}
-use Rattle.tensor_defs.specs.Operation.{Axis, x1, x2, x3}
-use Rattle.tensor_defs.specs.Tensor.{Index, axis_place, digit, component_number, index_of}
+use Rattle.tensor_defs.specs.Prelude.{Axis, x1, x2, x3, Index, axis_place, digit, component_number, index_of}
 use Rattle.tensor_laws.proofs.ComponentNumbers.{length-index_of, number-index_of, number_below, index_of-number}
 use Rattle.tensor_rank.specs.Digits.{digit_of, number_of}
 use Rattle.tensor_rank.specs.DigitLaws.{number_of-same, digit_of-number}

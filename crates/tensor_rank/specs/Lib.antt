@@ -13,3 +13,4 @@ pub mod ShapeValue
 pub mod Shapes
 pub mod AnyShapes
 pub mod ExchangeRows
+pub mod Prelude

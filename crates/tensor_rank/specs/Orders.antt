@@ -11,9 +11,7 @@
 --   AreSpelled      for the first components what the numbers of their blocks spell
 --   spelled_before  what is spelled decides, and where it agrees something else
 use Rattle.std.specs.Prelude.{◌≡◌, ℕ, zero, suc, ◌+◌, ◌-◌, ◌*◌, ◌<◌, ◌≤◌, nat_eq, nat_lt, Bool, true, false, List, [], ◌∷◌, cond, get_or, length}
-use Rattle.tensor_defs.specs.Lists.{Each}
-use Rattle.tensor_defs.specs.Orders.{index_before, block_before, block_numbers, pair_number, IsOrder}
-use Rattle.tensor_defs.specs.Tensor.{Index, digit, index_of}
+use Rattle.tensor_defs.specs.Prelude.{Each, index_before, block_before, block_numbers, pair_number, IsOrder, Index, digit, index_of}
 
 pub data Ordering : Type 0 where
   ByIndex : Ordering

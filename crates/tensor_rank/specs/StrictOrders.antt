@@ -3,8 +3,7 @@
 --   orders_strict        the same for components by their numbers
 use Rattle.std.specs.Prelude.{◌≡◌, ℕ, Bool, true, false, IsTrue, refl}
 use Rattle.tensor_defs.specs.Tensor.{index_of}
-use Rattle.tensor_laws.proofs.BlockOrder.{block_order}
-use Rattle.tensor_laws.proofs.IndexOrder.{index_order}
+use Rattle.tensor_laws.proofs.Prelude.{block_order, index_order}
 use Rattle.sign_moves.specs.Firsts.{IsStrict}
 use Rattle.tensor_rank.specs.Orders.{Ordering, ByIndex, ByBlocks, before_at, OrdersAreOrders}
 

@@ -10,14 +10,10 @@ use Rattle.std.specs.Prelude.{codes}
 use Rattle.tensor_defs.specs.declared.Weights.{Weights}
 use Rattle.tensor_defs.specs.declared.Weights.TheVariants.{Plain, Shear}
 use Rattle.tensor_defs.specs.Lists.{Each}
-use Rattle.text_defs.specs.GroupTexts.{SpellsGroup}
-use Rattle.text_defs.specs.JahnTexts.{SpellsJahn}
-use Rattle.text_defs.specs.NumberTexts.{spaced}
+use Rattle.text_defs.specs.Prelude.{SpellsGroup, SpellsJahn, spaced, GroupAt, JahnAt, Request, SpellsRequest, weights_text, JahnWords, GroupJahn, GroupJahns}
+use Rattle.text_defs.specs.Prelude.{GroupGroup, GroupGroupJahn, GroupGroupJahns, Form, Group, Voigt, States, Pairs, Differ, Same, Comment}
 use Rattle.text_defs.specs.declared.Format.{Format}
 use Rattle.text_defs.specs.declared.Format.TheVariants.{One, Two}
-use Rattle.text_defs.specs.Requests.{GroupAt, JahnAt, Request, SpellsRequest, weights_text, JahnWords, GroupJahn, GroupJahns}
-use Rattle.text_defs.specs.Requests.{GroupGroup, GroupGroupJahn, GroupGroupJahns}
-use Rattle.text_defs.specs.Requests.Request.{Form, Group, Voigt, States, Pairs, Differ, Same, Comment}
 use Rattle.text_laws.proofs.GroupUnique.{one_symbol}
 use Rattle.text_laws.proofs.JahnUnique.{one_jahn}
 use Rattle.text_laws.proofs.Words.{Visible, visible_tested, visible_append, group_visible}

@@ -6,18 +6,12 @@
 --   same_words          words with one space between two are told by the line
 --   group_visible, jahn_visible    the texts of group symbols and of Jahn symbols are such words
 --   jahn_above_comma    no comma stands in the text of a Jahn symbol
-use Rattle.std.proofs.Common.{◌≡◌, ◌==◌, ◌%◌, ◌/◌, ◌+◌, ◌-◌, ◌<◌, ℕ, zero, suc, Bool, true, false, cond}
-use Rattle.std.proofs.Common.{List, [], ◌∷◌, ◌++◌, get_or, refl, sym, subst, arith, inl, inr, lit<}
+use Rattle.list_laws.proofs.Kit.{◌≡◌, ◌==◌, ◌%◌, ◌/◌, ◌+◌, ◌-◌, ◌<◌, ℕ, zero, suc, Bool, true, false, cond, List, [], ◌∷◌, ◌++◌, get_or, refl, sym, subst}
+use Rattle.list_laws.proofs.Kit.{arith, inl, inr, lit<, nat_tests}
 use Rattle.std.specs.Prelude.{codes, nat_lt, Contains}
-use Rattle.std.proofs.lemmas.Bool.Decides.{nat_tests}
-use Rattle.tensor_defs.specs.Lists.{Each}
-use Rattle.tensor_defs.specs.Tensor.{Marks}
-use Rattle.tensor_defs.specs.Jahn.{Symmetric, Antisymmetric, Atom, V, Bracketed, Factor, JahnSymbol}
-use Rattle.tensor_defs.specs.Symbols.{GroupSymbol, parent_texts, parent_text}
-use Rattle.text_defs.specs.GroupTexts.{ends_operator, with_primes, suffix_at, SpellsGroup, grey_text}
-use Rattle.text_defs.specs.JahnTexts.{atom_text, power_text, factor_text, AreMarks, SpellsFactors, SpellsBody}
-use Rattle.text_defs.specs.JahnTexts.{SpellsJahn}
-use Rattle.text_defs.specs.NumberTexts.{spaced}
+use Rattle.tensor_defs.specs.Prelude.{Each, Marks, Symmetric, Antisymmetric, Atom, V, Bracketed, Factor, JahnSymbol, GroupSymbol, parent_texts, parent_text}
+use Rattle.text_defs.specs.Prelude.{ends_operator, with_primes, suffix_at, SpellsGroup, grey_text, atom_text, power_text, factor_text, AreMarks}
+use Rattle.text_defs.specs.Prelude.{SpellsFactors, SpellsBody, SpellsJahn, spaced}
 use Rattle.list_laws.proofs.Lists.{heads, tails, none_some}
 
 -- each byte is above the number

@@ -3,24 +3,14 @@
 --   IsClassing, no_earlier, classing_none, classing_skip, classing_push, classing_done    the classes of the states up to n
 --   IsSeen, seen_none, seen_push, seen_kept    the states that are in a class
 --   added_none, added_more    the marking of members
-use Rattle.std.proofs.Common.{◌≡◌, ℕ, ◌+◌, ◌⊎◌, inl, inr, ◌<◌, ◌≤◌, Bool, true, false, List, [], ◌∷◌, ◌++◌, length, refl, ap, sym, ◌∙◌, arith, subst}
+use Rattle.list_laws.proofs.Kit.{◌≡◌, ℕ, ◌+◌, ◌⊎◌, inl, inr, ◌<◌, ◌≤◌, Bool, true, false, List, [], ◌∷◌, ◌++◌, length, refl, ap, sym, ◌∙◌, arith, subst}
+use Rattle.list_laws.proofs.Kit.{nat_tests, Contains-append_left, Contains-push, Contains-push_cases, get_or_from_slice_get, cases_lt, false≢true}
 use Rattle.std.specs.Prelude.{Contains, ◌↔◌, IsTrue, Option, Some, nat_lt, get_or, replicate, set, slice_get, slice_index_or}
-use Rattle.std.proofs.lemmas.Bool.Decides.{nat_tests}
-use Rattle.std.proofs.lemmas.List.Elements.{Contains-append_left, Contains-push, Contains-push_cases}
-use Rattle.std.proofs.lemmas.Option.{get_or_from_slice_get}
-use Rattle.std.proofs.lemmas.Bool.{cases_lt, false≢true}
 use Rattle.tensor_laws.proofs.Sets.{name_same}
-use Rattle.list_laws.proofs.Rising.{rising_push}
-use Rattle.list_laws.proofs.Members.{each_push, each_held, each_map}
-use Rattle.tensor_defs.specs.Lists.{Each, IsRising, IsListing}
-use Rattle.tensor_defs.specs.Operation.{Operation}
-use Rattle.tensor_defs.specs.OperationOrder.{comes_before}
-use Rattle.tensor_defs.specs.Symbols.{GroupSymbol}
-use Rattle.tensor_defs.specs.Names.{IsNameOf}
-use Rattle.tensor_defs.specs.States.{InDouble, IsState, IsSwappable, AreStates, InPairGroup, InTwinningGroup}
-use Rattle.tensor_defs.specs.PairClasses.{PairClass, IsPairClass, ArePairClasses, least_before}
-use Rattle.magnetic_groups.specs.Marks.{mark_at}
-use Rattle.magnetic_groups.specs.Sets.{In, IsGroup, IsWithin, HaveFrame, FitsFrame}
+use Rattle.list_laws.proofs.Prelude.{rising_push, each_push, each_held, each_map}
+use Rattle.tensor_defs.specs.Prelude.{Each, IsRising, IsListing, Operation, comes_before, GroupSymbol, IsNameOf, InDouble, IsState, IsSwappable, AreStates}
+use Rattle.tensor_defs.specs.Prelude.{InPairGroup, InTwinningGroup, PairClass, IsPairClass, ArePairClasses, least_before}
+use Rattle.magnetic_groups.specs.Prelude.{mark_at, In, IsGroup, IsWithin, HaveFrame, FitsFrame}
 use Rattle.magnetic_groups.proofs.Reaching.{no_mark, set_kept, set_new, set_told}
 use Rattle.coset_states.specs.Numbering.{Cosets}
 use Rattle.twin_pairs.specs.Classes.{AreAdded, HasNoEarlier, AreMembers, IsClassFrom}

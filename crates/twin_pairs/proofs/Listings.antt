@@ -1,19 +1,13 @@
 -- The states of a class in their order.
 --   state_within, state_below    states
 --   IsListed    the members up to n
-use Rattle.std.proofs.Common.{◌≡◌, ℕ, zero, suc, ◌+◌, ◌-◌, ◌⊎◌, inl, inr, ◌<◌, ◌≤◌, min, Bool, true, false, List, [], ◌∷◌, ◌++◌, length, refl, ap, sym, ◌∙◌, arith, subst}
+use Rattle.list_laws.proofs.Kit.{◌≡◌, ℕ, zero, suc, ◌+◌, ◌-◌, ◌⊎◌, inl, inr, ◌<◌, ◌≤◌, min, Bool, true, false, List, [], ◌∷◌, ◌++◌, length, refl, ap, sym}
+use Rattle.list_laws.proofs.Kit.{◌∙◌, arith, subst, nat_tests, slice_get_within, Contains-append_left, Contains-push, Contains-push_cases, cases_lt}
+use Rattle.list_laws.proofs.Kit.{false≢true}
 use Rattle.std.specs.Prelude.{Contains, ◌↔◌, IsTrue, Some, None, nat_lt}
-use Rattle.std.proofs.lemmas.Bool.Decides.{nat_tests}
-use Rattle.std.proofs.lemmas.Option.{slice_get_within}
-use Rattle.std.proofs.lemmas.List.Elements.{Contains-append_left, Contains-push, Contains-push_cases}
-use Rattle.std.proofs.lemmas.Bool.{cases_lt, false≢true}
-use Rattle.list_laws.proofs.Rising.{rising_push}
-use Rattle.list_laws.proofs.Members.{each_push, each_held, each_map, each_found}
-use Rattle.tensor_defs.specs.Lists.{Each, IsRising}
-use Rattle.tensor_defs.specs.Operation.{Operation}
-use Rattle.tensor_defs.specs.States.{InDouble, IsState, AreStates}
-use Rattle.magnetic_groups.specs.Marks.{mark_at}
-use Rattle.magnetic_groups.specs.Sets.{In, IsGroup, IsWithin}
+use Rattle.list_laws.proofs.Prelude.{rising_push, each_push, each_held, each_map, each_found}
+use Rattle.tensor_defs.specs.Prelude.{Each, IsRising, Operation, InDouble, IsState, AreStates}
+use Rattle.magnetic_groups.specs.Prelude.{mark_at, In, IsGroup, IsWithin}
 use Rattle.magnetic_groups.proofs.Cosets.{coset_self}
 use Rattle.coset_states.specs.Numbering.{Cosets, TellsState}
 use Rattle.tensor_laws.proofs.States.{one_state}

@@ -2,23 +2,18 @@
 --   IsMarking, marking_none, marking_more    those of the first n products
 --   last_none, last_more    the greatest of their numbers
 --   marking_done    all of them
-use Rattle.std.proofs.Common.{◌≡◌, ℕ, ◌+◌, ◌⊎◌, inl, inr, ◌<◌, ◌≤◌, Bool, true, false, List, length, ap, sym, ◌∙◌, arith, subst}
+use Rattle.list_laws.proofs.Kit.{◌≡◌, ℕ, ◌+◌, ◌⊎◌, inl, inr, ◌<◌, ◌≤◌, Bool, true, false, List, length, ap, sym, ◌∙◌, arith, subst, nat_tests, cases_lt}
+use Rattle.list_laws.proofs.Kit.{length-set}
 use Rattle.std.specs.Prelude.{Contains, ◌↔◌, replicate, set, slice_index_or, Some}
 use Rattle.std.specs.Ordering.{ord_max}
 use Rattle.std.proofs.Common.{nat_cmp}
-use Rattle.std.proofs.lemmas.Bool.Decides.{nat_tests}
-use Rattle.std.proofs.lemmas.Bool.{cases_lt}
-use Rattle.std.proofs.lemmas.List.{length-set}
-use Rattle.tensor_defs.specs.Operation.{Operation, IsProduct}
-use Rattle.tensor_defs.specs.States.{AreStates, InDouble, IsState, Times}
-use Rattle.tensor_laws.proofs.Products.{product_unique}
-use Rattle.magnetic_groups.specs.Marks.{mark_at}
-use Rattle.magnetic_groups.specs.Sets.{In, IsGroup, IsWithin}
+use Rattle.tensor_defs.specs.Prelude.{Operation, IsProduct, AreStates, InDouble, IsState, Times}
+use Rattle.tensor_laws.proofs.Prelude.{product_unique, one_state}
+use Rattle.magnetic_groups.specs.Prelude.{mark_at, In, IsGroup, IsWithin}
 use Rattle.magnetic_groups.proofs.Reaching.{no_mark, set_kept, set_new, set_told}
 use Rattle.coset_states.specs.Numbering.{Cosets, TellsState}
 use Rattle.twin_pairs.specs.Classes.{AreMarked, IsLast}
 use Rattle.twin_pairs.proofs.DoubleCosets.{double_from, double_told}
-use Rattle.tensor_laws.proofs.States.{one_state}
 use Rattle.twin_pairs.proofs.Listings.{state_within}
 
 -- f·r lies in state k, and in no other

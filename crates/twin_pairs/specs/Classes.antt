@@ -8,13 +8,9 @@
 --   IsClassFrom    the class of a state that is the least of its class
 -- Source: International Tables D 3.4.
 use Rattle.std.specs.Prelude.{◌≡◌, ℕ, ◌<◌, ◌≤◌, Bool, true, List, ◌∷◌, length, Contains, ◌↔◌, ◌⊎◌, nat_lt, slice_index_or, Some}
-use Rattle.tensor_defs.specs.Lists.{Each, IsRising}
-use Rattle.tensor_defs.specs.Operation.{Operation}
-use Rattle.tensor_defs.specs.States.{IsState, InDouble}
+use Rattle.tensor_defs.specs.Prelude.{Each, IsRising, Operation, IsState, InDouble, IsPairClass}
 use Rattle.tensor_defs.specs.PairClasses as defs
-use Rattle.tensor_defs.specs.PairClasses.{IsPairClass}
-use Rattle.magnetic_groups.specs.Marks.{mark_at}
-use Rattle.magnetic_groups.specs.Sets.{In}
+use Rattle.magnetic_groups.specs.Prelude.{mark_at, In}
 use Rattle.coset_states.specs.Numbering.{Cosets, TellsState}
 use Rattle.twin_pairs.specs.declared.PairClass.{PairClass}
 

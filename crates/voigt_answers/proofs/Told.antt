@@ -4,12 +4,8 @@
 use Rattle.std.proofs.Common.{◌≡◌, ◌↔◌, ℕ, List, inl, inr}
 use Rattle.std.specs.Prelude.{Result, Ok, Err, IfErr}
 use Rattle.tensor_defs.specs.declared.Weights.{Weights}
-use Rattle.tensor_defs.specs.Frames.{AllOf, IsPlain}
-use Rattle.tensor_defs.specs.Group.{SameSet}
-use Rattle.tensor_defs.specs.Jahn.{JahnSymbol}
-use Rattle.tensor_defs.specs.Operation.{Operation}
-use Rattle.tensor_defs.specs.Orders.{block_before}
-use Rattle.tensor_defs.specs.Voigt.{HasBlocks, HasVoigtShape, IsVoigtTable, VoigtGrows, VoigtTable}
+use Rattle.tensor_defs.specs.Prelude.{AllOf, IsPlain, SameSet, JahnSymbol, Operation, block_before, HasBlocks, HasVoigtShape, IsVoigtTable, VoigtGrows}
+use Rattle.tensor_defs.specs.Prelude.{VoigtTable}
 use Rattle.table_answers.proofs.SetLaws.{fits_admitted, grows_same, same_admitted}
 use Rattle.voigt_table.specs.declared.memory.VoigtFault.{VoigtFault}
 use Rattle.voigt_table.specs.declared.memory.VoigtFault.TheVariants.{Shape, TooLarge, NoMemory}

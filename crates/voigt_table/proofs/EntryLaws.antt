@@ -6,16 +6,12 @@
 --   entry_told      the block numbers of a component are those of the entry to which it belongs
 --   small_shift     the weight of an entry is 1, 2 or 4
 --   blocks_are      the blocks are together the indices of a rank
-use Rattle.std.proofs.Common.{◌≡◌, ℕ, zero, suc, ◌+◌, ◌^◌, ◌<◌, ◌≤◌, Bool, true, false, cond, nat_eq, nat_lt, List, [], ◌∷◌, ◌++◌, length, refl, ap, sym, ◌∙◌, subst, arith, inl, inr}
+use Rattle.list_laws.proofs.Kit.{◌≡◌, ℕ, zero, suc, ◌+◌, ◌^◌, ◌<◌, ◌≤◌, Bool, true, false, cond, nat_eq, nat_lt, List, [], ◌∷◌, ◌++◌, length, refl, ap, sym}
+use Rattle.list_laws.proofs.Kit.{◌∙◌, subst, arith, inl, inr, cases_lt, eqb-true, Contains-append_left, Contains-push, Contains-push_cases}
 use Rattle.std.specs.Prelude.{Contains}
-use Rattle.std.proofs.lemmas.Bool.{cases_lt, eqb-true}
-use Rattle.std.proofs.lemmas.List.Elements.{Contains-append_left, Contains-push, Contains-push_cases}
 use Rattle.tensor_defs.specs.declared.Weights.{Weights}
 use Rattle.tensor_defs.specs.declared.Weights.TheVariants.{Plain, Shear}
-use Rattle.tensor_defs.specs.Lists.{same_numbers_in}
-use Rattle.tensor_defs.specs.Orders.{block_numbers}
-use Rattle.tensor_defs.specs.Tensor.{component_number, index_of}
-use Rattle.tensor_defs.specs.Voigt.{VoigtEntry, component_of, entries, rank_of_blocks, shift}
+use Rattle.tensor_defs.specs.Prelude.{same_numbers_in, block_numbers, component_number, index_of, VoigtEntry, component_of, entries, rank_of_blocks, shift}
 use Rattle.tensor_rank.specs.Orders.{AreBlocks}
 use Rattle.list_laws.proofs.Tests.{both, same_numbers_told}
 use Rattle.voigt_table.specs.declared.entries.Blocks.{Blocks}

@@ -16,11 +16,8 @@ use Rattle.std.proofs.lemmas.List.Elements.{length_all_zip}
 use Rattle.std.proofs.lemmas.List.FromFn.{get_or-map-range_with_len, length-map-range_with_len}
 use Rattle.tensor_defs.specs.declared.Weights.{Weights}
 use Rattle.tensor_defs.specs.declared.Weights.TheVariants.{Plain}
-use Rattle.tensor_defs.specs.Lists.{Each}
-use Rattle.tensor_defs.specs.Number.{Fraction, Number, ReachesLimit, mul, value_of}
-use Rattle.tensor_defs.specs.Orders.{block_numbers}
-use Rattle.tensor_defs.specs.Tensor.{index_of}
-use Rattle.tensor_defs.specs.Voigt.{VoigtEntry, halved, rank_of_blocks, shift, weighted}
+use Rattle.tensor_defs.specs.Prelude.{Each, Fraction, Number, ReachesLimit, mul, value_of, block_numbers, index_of, VoigtEntry, halved, rank_of_blocks, shift}
+use Rattle.tensor_defs.specs.Prelude.{weighted}
 use Rattle.exact_frac.specs.Held.{IsHeldAs}
 use Rattle.reduced_form.specs.declared.forms.Term.{Term}
 use Rattle.reduced_form.specs.declared.memory.SolveFault.{SolveFault}

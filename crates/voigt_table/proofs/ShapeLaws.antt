@@ -8,8 +8,7 @@
 use Rattle.std.proofs.Common.{◌≡◌, ℕ, zero, suc, ◌+◌, ◌*◌, ◌==◌, Bool, true, false, List, [], ◌∷◌, map, length, get_or, refl, sym, ◌∙◌, subst, arith, ◌⊎◌, inl, inr}
 use Rattle.std.specs.Prelude.{Contains, Option, Some, None, ◌||◌, ◌&&◌}
 use Rattle.tensor_defs.specs.Jahn as defs
-use Rattle.tensor_defs.specs.Lists.{Each}
-use Rattle.tensor_defs.specs.Voigt.{HasBlocks, HasVoigtShape, VoigtShape, rank_of_blocks, voigt_shapes}
+use Rattle.tensor_defs.specs.Prelude.{Each, HasBlocks, HasVoigtShape, VoigtShape, rank_of_blocks, voigt_shapes}
 use Rattle.voigt_table.specs.declared.blocks.Piece.{Piece}
 use Rattle.voigt_table.specs.declared.blocks.Piece.TheVariants.{Vector, Pair, TwoPairs, PairOfPairs}
 use Rattle.voigt_table.specs.declared.entries.Blocks.{Blocks}

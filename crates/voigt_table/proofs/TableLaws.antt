@@ -2,27 +2,17 @@
 --   component_small the component of an entry is one of the rank
 --   zipped_named    weighted terms name the same free entries
 --   blocks_told, fault_told, table_told    what is told of the Voigt table of a symbol with known blocks; of any symbol
-use Rattle.std.proofs.Common.{◌≡◌, ℕ, suc, ◌^◌, ◌<◌, ◌≤◌, List, [], ◌∷◌, map, length, get_or, refl, ap, sym, ◌∙◌, subst, arith, inl, inr}
+use Rattle.list_laws.proofs.Kit.{◌≡◌, ℕ, suc, ◌^◌, ◌<◌, ◌≤◌, List, [], ◌∷◌, map, length, get_or, refl, ap, sym, ◌∙◌, subst, arith, inl, inr, get_or-map}
+use Rattle.list_laws.proofs.Kit.{length-map, AllZip-get_or}
 use Rattle.std.specs.Prelude.{Contains, Result, Ok, Err}
-use Rattle.std.proofs.lemmas.List.{get_or-map, length-map}
-use Rattle.std.proofs.lemmas.List.Elements.{AllZip-get_or}
 use lib.IntN.{pos}
 use Rattle.tensor_defs.specs.declared.Sign.{Sign}
 use Rattle.tensor_defs.specs.declared.Weights.{Weights}
-use Rattle.tensor_defs.specs.Elimination.{Grows}
-use Rattle.tensor_defs.specs.Frames.{AllOf, IsPlain}
-use Rattle.tensor_defs.specs.Jahn.{JahnSymbol, rank}
-use Rattle.tensor_defs.specs.Lists.{Each}
-use Rattle.tensor_defs.specs.Number.{Fraction, ReachesLimit, value_of}
-use Rattle.tensor_defs.specs.Operation.{Operation}
-use Rattle.tensor_defs.specs.Orders.{block_before, block_numbers}
+use Rattle.tensor_defs.specs.Prelude.{Grows, AllOf, IsPlain, JahnSymbol, rank, Each, Fraction, ReachesLimit, value_of, Operation, block_before, block_numbers}
+use Rattle.tensor_defs.specs.Prelude.{Fits, IsProper, Table, factor_of, Index, component_number, index_of, AreWeighted, HasBlocks, IsVoigtTable, VoigtTable}
+use Rattle.tensor_defs.specs.Prelude.{VoigtEntry, WeightGrows, component_of, free_entry, rank_of_blocks, shift, weighted}
 use Rattle.tensor_defs.specs.Table as defs
-use Rattle.tensor_defs.specs.Table.{Fits, IsProper, Table, factor_of}
-use Rattle.tensor_defs.specs.Tensor.{Index, component_number, index_of}
-use Rattle.tensor_defs.specs.Voigt.{AreWeighted, HasBlocks, IsVoigtTable, VoigtTable, VoigtEntry, WeightGrows, component_of, free_entry, rank_of_blocks, shift, weighted}
-use Rattle.tensor_laws.proofs.BlockOrder.{block_order}
-use Rattle.tensor_laws.proofs.ComponentNumbers.{number_below}
-use Rattle.tensor_laws.proofs.Unique.{one_table}
+use Rattle.tensor_laws.proofs.Prelude.{block_order, number_below, one_table}
 use Rattle.magnetic_groups.specs.Sets.{In}
 use Rattle.exact_frac.proofs.Parts.{held-not_large}
 use Rattle.reduced_form.specs.declared.forms.Term.{Term}

@@ -6,22 +6,16 @@
 --   unit_text       a term with the factor 1 or -1
 --   free_line, sum_line, zero_line    the line of an entry
 --   free_line_whole, zero_line_whole  the same where it is appended at once
-use Rattle.std.proofs.Common.{◌≡◌, ℕ, zero, suc, ◌+◌, ◌<◌, ◌≤◌, Bool, true, false, List, [], ◌∷◌, ◌++◌, map, length, get_or, inl, inr, refl, ap, sym, ◌∙◌, subst, arith}
-use Rattle.std.specs.List.{flat_map}
+use Rattle.list_laws.proofs.Kit.{◌≡◌, ℕ, zero, suc, ◌+◌, ◌<◌, ◌≤◌, Bool, true, false, List, [], ◌∷◌, ◌++◌, map, length, get_or, inl, inr, refl, ap, sym, ◌∙◌}
+use Rattle.list_laws.proofs.Kit.{subst, arith, flat_map, cases_Bool, flat_map-append, length-map, take_all}
 use Rattle.std.specs.Prelude.{if◌then◌else◌, codes, take}
-use Rattle.std.proofs.lemmas.Bool.{cases_Bool}
-use Rattle.std.proofs.lemmas.Grind.{flat_map-append}
-use Rattle.std.proofs.lemmas.List.{append_assoc, append-nil, length-map, take_all}
+use Rattle.std.proofs.lemmas.List.{append_assoc, append-nil}
 use Rattle.tensor_defs.specs.declared.Sign.{Sign}
 use Rattle.tensor_defs.specs.declared.Sign.TheVariants.{Plus, Minus}
-use Rattle.tensor_defs.specs.Lists.{Each, same_numbers_in}
-use Rattle.tensor_defs.specs.Number.{Fraction}
-use Rattle.tensor_defs.specs.Voigt.{VoigtEntry, entries}
-use Rattle.text_defs.specs.AnswerTexts.{entry_line, entry_name, has_entry, named, rational, row_text}
-use Rattle.text_defs.specs.NumberTexts.{NamedTerm, sum_text, term_text}
+use Rattle.tensor_defs.specs.Prelude.{Each, same_numbers_in, Fraction, VoigtEntry, entries}
+use Rattle.text_defs.specs.Prelude.{entry_line, entry_name, has_entry, named, rational, row_text, NamedTerm, sum_text, term_text}
 use Rattle.reduced_form.specs.declared.forms.Term.{Term}
-use Rattle.reduced_form.specs.Forms.{row_at, term_of, unit_fraction}
-use Rattle.reduced_form.specs.Texts.{lines_upto, placed, sum_from}
+use Rattle.reduced_form.specs.Prelude.{row_at, term_of, unit_fraction, lines_upto, placed, sum_from}
 use Rattle.reduced_form.proofs.TextLaws.{IsMarkedUpTo, signed_name, sum_whole}
 use Rattle.list_laws.proofs.Tests.{same_numbers_own, same_numbers_told}
 use Rattle.text_laws.proofs.Joins.{equation_joined, free_joined}

@@ -3,14 +3,11 @@
 --   even, up, down  where n is m; where it is greater; where it is less
 --   weighted_zero   a number that isn't 0 stays so
 --   unit_small      1 and -1 stay below the limit
-use Rattle.std.proofs.Common.{◌≡◌, ◌≢◌, ℕ, zero, suc, ◌+◌, ◌-◌, ◌^◌, ◌<◌, ◌≤◌, refl, ap, sym, ◌∙◌, subst, arith, inl, inr, lit<}
-use Rattle.std.proofs.lemmas.Bool.{cases_lt}
-use Rattle.std.proofs.Math.Nat.{one-dvd}
+use Rattle.list_laws.proofs.Kit.{◌≡◌, ◌≢◌, ℕ, zero, suc, ◌+◌, ◌-◌, ◌^◌, ◌<◌, ◌≤◌, refl, ap, sym, ◌∙◌, subst, arith, inl, inr, lit<, cases_lt, one-dvd}
 use lib.IntN.{ℤ, pos, negsuc, neg_ℤ}
 use Rattle.tensor_defs.specs.declared.Sign.{Sign}
 use Rattle.tensor_defs.specs.declared.Sign.TheVariants.{Plus, Minus}
-use Rattle.tensor_defs.specs.Number.{Number, Fraction, mul, num_zero, num_one, whole, half_of, fraction, over, value_of, same_numbers, ReachesLimit}
-use Rattle.tensor_defs.specs.Voigt.{halved}
+use Rattle.tensor_defs.specs.Prelude.{Number, Fraction, mul, num_zero, num_one, whole, half_of, fraction, over, value_of, same_numbers, ReachesLimit, halved}
 use Rattle.number_laws.proofs.NumberLaws.{num_mul_assoc, num_mul-one, num_mul-zero, num_one-mul, ring}
 use Rattle.exact_frac.specs.Held.{IsHeld, IsHeldAs}
 use Rattle.exact_frac.proofs.Overs.{over-is_zero, over-mul, over-zero}

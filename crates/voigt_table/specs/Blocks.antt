@@ -11,8 +11,7 @@
 --   component_at    the number of an entry's component
 --   entry_of        the number of the entry that a component has
 -- Source: International Tables D 1.1 (matrix notation).
-use Rattle.std.specs.Prelude.{◌≡◌, ℕ, ◌+◌, ◌-◌, ◌*◌, ◌/◌, ◌%◌, ◌==◌, List, [], ◌∷◌, Option, Some, None, get_or}
-use Rattle.std.specs.Prelude.{if◌then◌else◌}
+use Rattle.std.specs.Prelude.{◌≡◌, ℕ, ◌+◌, ◌-◌, ◌*◌, ◌/◌, ◌%◌, ◌==◌, List, [], ◌∷◌, Option, Some, None, get_or, if◌then◌else◌}
 use Rattle.tensor_defs.specs.Jahn as defs
 use Rattle.tensor_defs.specs.Voigt.{HasBlocks, HasVoigtShape, VoigtEntry, symmetric_pair, symmetric_pairs, two_pairs, vector}
 use Rattle.voigt_table.specs.declared.blocks.Piece.{Piece}

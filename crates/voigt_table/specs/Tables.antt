@@ -10,11 +10,7 @@
 use Rattle.std.specs.Prelude.{◌≡◌, ℕ, ◌<◌, List, length, get_or, map, Result, Ok, Err}
 use Rattle.std.specs.List.{range_with_len}
 use Rattle.tensor_defs.specs.declared.Weights.{Weights}
-use Rattle.tensor_defs.specs.Frames.{AllOf, IsPlain}
-use Rattle.tensor_defs.specs.Jahn.{JahnSymbol}
-use Rattle.tensor_defs.specs.Lists.{Each}
-use Rattle.tensor_defs.specs.Operation.{Operation}
-use Rattle.tensor_defs.specs.Voigt.{HasBlocks, HasVoigtShape, IsVoigtTable, VoigtGrows, VoigtTable}
+use Rattle.tensor_defs.specs.Prelude.{AllOf, IsPlain, JahnSymbol, Each, Operation, HasBlocks, HasVoigtShape, IsVoigtTable, VoigtGrows, VoigtTable}
 use Rattle.reduced_form.specs.declared.forms.Term.{Term}
 use Rattle.reduced_form.specs.declared.memory.SolveFault.{SolveFault}
 use Rattle.reduced_form.specs.declared.memory.SolveFault.TheVariants as solving

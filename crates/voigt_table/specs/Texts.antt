@@ -4,8 +4,7 @@
 --   entry_text      the text of a term
 --   AreFreeMarks    for each number of an entry whether it is free; a table has at most 36
 use Rattle.std.specs.Prelude.{◌≡◌, ℕ, ◌<◌, Bool, false, List, length, map, get_or}
-use Rattle.text_defs.specs.AnswerTexts.{entry_name, has_entry, rational}
-use Rattle.text_defs.specs.NumberTexts.{NamedTerm, term_text}
+use Rattle.text_defs.specs.Prelude.{entry_name, has_entry, rational, NamedTerm, term_text}
 use Rattle.reduced_form.specs.declared.forms.Term.{Term}
 use Rattle.voigt_table.specs.Blocks.{entry_at, entry_count}
 use Rattle.voigt_table.specs.Tables.{VoigtValue}

@@ -11,11 +11,7 @@
 use Rattle.std.specs.Prelude.{◌≡◌, ℕ, ◌<◌, ◌≤◌, List, Contains, length, map, get_or, Result, Ok, Err}
 use Rattle.std.specs.List.{AllZip}
 use Rattle.tensor_defs.specs.declared.Weights.{Weights}
-use Rattle.tensor_defs.specs.Lists.{Each}
-use Rattle.tensor_defs.specs.Number.{ReachesLimit, value_of}
-use Rattle.tensor_defs.specs.Orders.{block_numbers}
-use Rattle.tensor_defs.specs.Tensor.{component_number, index_of}
-use Rattle.tensor_defs.specs.Voigt.{VoigtEntry, component_of, weighted}
+use Rattle.tensor_defs.specs.Prelude.{Each, ReachesLimit, value_of, block_numbers, component_number, index_of, VoigtEntry, component_of, weighted}
 use Rattle.exact_frac.specs.Held.{IsHeld, IsHeldAs}
 use Rattle.reduced_form.specs.declared.forms.Term.{Term}
 use Rattle.reduced_form.specs.declared.memory.SolveFault.{SolveFault}

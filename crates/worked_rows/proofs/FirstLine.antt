@@ -3,14 +3,11 @@
 --   first_line_not_refused, first_line_answered    the line isn't refused, and has its answer at each number
 use Rattle.std.proofs.Common.{◌≡◌, ℕ, ◌<◌, [], refl, ap, sym, arith, ◌⊎◌, inl, inr, subst, get_or, ◌≤◌, lit≤}
 use Rattle.std.specs.Prelude.{◌↔◌}
-use Rattle.tensor_defs.specs.Frames.{IsPlain, AllOf, OneUnit}
-use Rattle.tensor_defs.specs.Group.{InGroup}
-use Rattle.tensor_defs.specs.Operation.{Axis, x1, x2, x3, Operation, entry, identity, reversal}
-use Rattle.text_defs.specs.Refusals.{RefusalWord, Long, Syntax, Primes, Rank, Shape, NotSub, TooLarge, Refuses}
-use Rattle.text_defs.specs.Refusals.{RefusesRequest, IsPassed}
+use Rattle.tensor_defs.specs.Prelude.{IsPlain, AllOf, OneUnit, InGroup, Axis, x1, x2, x3, Operation, entry, identity, reversal}
+use Rattle.text_defs.specs.Prelude.{RefusalWord, Refuses, RefusesRequest, IsPassed, Request, SpellsRequest, longest_line}
+use Rattle.text_defs.specs.Refusals.{Long, Syntax, Primes, Rank, Shape, NotSub, TooLarge}
 use Rattle.text_defs.specs.declared.Format.{Format}
 use Rattle.text_defs.specs.declared.Format.TheVariants.{One, Two}
-use Rattle.text_defs.specs.Requests.{Request, SpellsRequest, longest_line}
 use Rattle.text_laws.proofs.RequestUnique.{one_request_spelled}
 use Rattle.worked_rows.proofs.FirstRowProof.{first_row, below_first}
 use Rattle.worked_rows.proofs.RowProofs.{false_true}

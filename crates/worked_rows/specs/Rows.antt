@@ -12,24 +12,13 @@
 --   GroupRow        the line group 2' spells a request, and its answer has these bytes
 --   FaultOfOneText  where a word goes wrong in the language of one text
 use Rattle.std.specs.Prelude.{◌≡◌, ◌≢◌, ℕ, true, false, List, [], ◌∷◌, ◌⊎◌, ◌↔◌, codes}
-use Rattle.tensor_defs.specs.Group.{InGroup, IsProductOf}
-use Rattle.tensor_defs.specs.Jahn.{JahnSymbol, V}
-use Rattle.tensor_defs.specs.Operation.{Operation, identity, matrix, one, nought, minus_one, x2}
-use Rattle.tensor_defs.specs.Orders.{index_before}
-use Rattle.tensor_defs.specs.Symbols.{GroupSymbol}
-use Rattle.tensor_defs.specs.Table.{Table, Term, alone, Fits}
-use Rattle.tensor_defs.specs.Tensor.{Index}
+use Rattle.tensor_defs.specs.Prelude.{InGroup, IsProductOf, JahnSymbol, V, Operation, identity, matrix, one, nought, minus_one, x2, index_before, GroupSymbol}
+use Rattle.tensor_defs.specs.Prelude.{Table, Term, alone, Fits, Index}
 use Rattle.tensor_laws.specs.Laws.{three_z}
 use Rattle.text_defs.specs.declared.Format.{Format}
 use Rattle.text_defs.specs.declared.Format.TheVariants.{Two}
-use Rattle.text_defs.specs.JahnTexts.{SpellsJahn}
-use Rattle.text_defs.specs.Answers.{AnswersRequest, IsAnswer}
-use Rattle.text_defs.specs.Refusals.{IsRefused}
-use Rattle.text_defs.specs.Requests.{Request, SpellsRequest, IsNoRequest}
+use Rattle.text_defs.specs.Prelude.{SpellsJahn, AnswersRequest, IsAnswer, IsRefused, Request, SpellsRequest, IsNoRequest, Form, Group, IsFaulty, AreAnswersOf}
 use Rattle.tensor_defs.specs.declared.Setting.TheVariants.{Default}
-use Rattle.text_defs.specs.Requests.Request.{Form, Group}
-use Rattle.text_defs.specs.Languages.{IsFaulty}
-use Rattle.text_defs.specs.Lines.{AreAnswersOf}
 
 -- 3z three times is the identity
 abbrev pub ThriceThreeZ : Type 0

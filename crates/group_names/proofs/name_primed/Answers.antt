@@ -1,7 +1,6 @@
 use Rattle.std.proofs.Common.{false, [], ◌∷◌, ◌+◌, ◌-◌, ◌^◌, arith}
 use Rattle.std.specs.Prelude.{Some, None}
-use Rattle.tensor_defs.specs.Lists.{up_to}
-use Rattle.tensor_defs.specs.Symbols.{operator_count}
+use Rattle.tensor_defs.specs.Prelude.{up_to, operator_count}
 use Rattle.magnetic_groups.specs.Sets.{In}
 use Rattle.group_symbol.specs.Readings.{symbol_of}
 use Rattle.group_names.specs.LookUps.{pattern}

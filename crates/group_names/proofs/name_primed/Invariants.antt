@@ -1,7 +1,6 @@
 use Rattle.std.specs.Prelude.{None, take, ◌^◌, ◌-◌}
 use Rattle.std.specs.List.{flat_map}
-use Rattle.tensor_defs.specs.Lists.{up_to}
-use Rattle.tensor_defs.specs.Symbols.{operator_count}
+use Rattle.tensor_defs.specs.Prelude.{up_to, operator_count}
 use Rattle.magnetic_groups.specs.Sets.{In}
 use Rattle.group_names.specs.LookUps.{IsFirstNamed, pattern}
 use Rattle.group_names.proofs.name_primed.Given as goal

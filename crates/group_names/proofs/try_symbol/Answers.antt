@@ -1,6 +1,5 @@
 use Rattle.std.proofs.Common.{refl, sym, subst}
-use Rattle.tensor_defs.specs.Group.{InGroup}
-use Rattle.tensor_defs.specs.Symbols.{GroupSymbol}
+use Rattle.tensor_defs.specs.Prelude.{InGroup, GroupSymbol}
 use Rattle.magnetic_groups.specs.Sets.{In}
 use Rattle.group_symbol.specs.Readings.{symbol_of}
 use Rattle.group_names.specs.LookUps.{SameForms}

@@ -1,9 +1,6 @@
 use Rattle.std.proofs.Common.{sym, subst}
 use Rattle.magnetic_groups.specs.Sets.{In, FitsFrame}
-use Rattle.tensor_defs.specs.Lists.{IsListing}
-use Rattle.tensor_defs.specs.OperationOrder.{comes_before}
-use Rattle.tensor_defs.specs.States.{InPairGroup, InTwinningGroup}
-use Rattle.tensor_defs.specs.Names.{IsNameOf}
+use Rattle.tensor_defs.specs.Prelude.{IsListing, comes_before, InPairGroup, InTwinningGroup, IsNameOf}
 use Rattle.twin_pairs.proofs.Assembly.{fits_of, class_assembled}
 use Rattle.twin_pairs.proofs.pair_class.Goals as goal
 

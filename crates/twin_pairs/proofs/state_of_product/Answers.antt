@@ -1,8 +1,6 @@
-use Rattle.std.proofs.Common.{◌≤◌, length, sym, subst, arith}
-use Rattle.std.proofs.lemmas.Option.{same_Some}
+use Rattle.list_laws.proofs.Kit.{◌≤◌, length, sym, subst, arith, same_Some}
 use Rattle.std.specs.Prelude.{Some}
-use Rattle.tensor_defs.specs.Operation.{Operation}
-use Rattle.tensor_defs.specs.States.{Times}
+use Rattle.tensor_defs.specs.Prelude.{Operation, Times}
 use Rattle.tensor_laws.proofs.Products.{product_unique}
 use Rattle.magnetic_groups.specs.Sets.{In}
 use Rattle.magnetic_groups.proofs.Cosets.{group_common, group_product}

@@ -5,8 +5,7 @@ use Rattle.sign_moves.specs.declared.classes.Entry.{Entry}
 use Rattle.sign_moves.specs.Firsts.{AreSettled}
 use Rattle.sign_moves.proofs.FirstLaws.{firsts_tell}
 use Rattle.tensor_rank.proofs.ExchangeLaws.{exchanges_reversible}
-use Rattle.tensor_rank.specs.Exchanges.{exchange_moves}
-use Rattle.tensor_rank.specs.Orders.{before_at, before_of}
+use Rattle.tensor_rank.specs.Prelude.{exchange_moves, before_at, before_of}
 use Rattle.constraint_rows.specs.WordRows.{AreSound, carrier_of}
 use Rattle.constraint_rows.proofs.RepresentativeLaws.{axis_made, axis_representatives, axis_settled, axis_sound}
 use Rattle.constraint_rows.proofs.axis.axis_classes.Goals as goal

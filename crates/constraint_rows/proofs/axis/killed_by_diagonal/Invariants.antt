@@ -1,6 +1,5 @@
 use Rattle.std.proofs.Common.{ℕ, ◌<◌, get_or}
-use Rattle.tensor_defs.specs.Operation.{identity}
-use Rattle.tensor_defs.specs.Tensor.{index_of}
+use Rattle.tensor_defs.specs.Prelude.{identity, index_of}
 use Rattle.tensor_rank.specs.Flags.{marks_of}
 use Rattle.constraint_rows.specs.Marking.{Kills}
 use Rattle.constraint_rows.proofs.axis.killed_by_diagonal.Given as goal

@@ -2,8 +2,7 @@ use Rattle.std.proofs.Common.{◌≡◌, ◌∙◌, ℕ, ◌+◌, ◌<◌, ◌�
 use Rattle.tensor_rank.specs.Flags.{marks_of}
 use Rattle.sign_moves.specs.declared.classes.Entry.{Entry}
 use Rattle.sign_moves.specs.Classes.{entry_at, first_at, vanishes_at}
-use Rattle.constraint_rows.specs.Marking.{IsTurned, IsTurnedEntry}
-use Rattle.constraint_rows.specs.PlainOps.{AllHaveColumns}
+use Rattle.constraint_rows.specs.Prelude.{IsTurned, IsTurnedEntry, AllHaveColumns}
 use Rattle.constraint_rows.specs.declared.ops.PlainOp.{PlainOp}
 use Rattle.constraint_rows.proofs.DiagonalLaws.{diagonal_columns, entry_more, told_lower, turned_marked}
 use Rattle.constraint_rows.proofs.axis.marked_table.Goals as goal

@@ -1,6 +1,5 @@
 use Rattle.std.proofs.Common.{◌≡◌, ◌+◌, ◌∙◌, true, false, get_or, subst, sym}
-use Rattle.tensor_defs.specs.Frames.{IsDiagonal}
-use Rattle.tensor_defs.specs.Operation.{Operation, identity}
+use Rattle.tensor_defs.specs.Prelude.{IsDiagonal, Operation, identity}
 use Rattle.tensor_rank.specs.Flags.{marks_of}
 use Rattle.constraint_rows.specs.Marking.{AreDiagonals}
 use Rattle.constraint_rows.proofs.DiagonalLaws.{diagonal_plain, diagonals_more, diagonals_skip}

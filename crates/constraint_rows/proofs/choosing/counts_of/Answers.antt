@@ -1,6 +1,5 @@
 use Rattle.std.proofs.Common.{◌≡◌, ◌≢◌, ◌-◌, drop, [], ap, sym, ◌∙◌, arith}
-use Rattle.tensor_defs.specs.Tensor.{digit, index_of}
-use Rattle.tensor_defs.specs.Words.{level, plus, minus, begins_plus, minus_count, plus_count}
+use Rattle.tensor_defs.specs.Prelude.{digit, index_of, level, plus, minus, begins_plus, minus_count, plus_count}
 use Rattle.tensor_rank.specs.IndexLaws.{nth}
 use Rattle.constraint_rows.specs.Gathering.{word_at}
 use Rattle.constraint_rows.proofs.WordLaws.{letter_one, letter_two, letter_three, letter_split_back, no_letter}

@@ -1,5 +1,4 @@
-use Rattle.std.proofs.Common.{◌≡◌, ℕ, ◌+◌, ◌<◌, List, get_or, rules, sym, ◌∙◌, subst}
-use Rattle.std.proofs.lemmas.List.{get_or_default}
+use Rattle.list_laws.proofs.Kit.{◌≡◌, ℕ, ◌+◌, ◌<◌, List, get_or, rules, sym, ◌∙◌, subst, get_or_default}
 use Rattle.tensor_defs.specs.Operation.{Operation, identity}
 use Rattle.tensor_rank.specs.Flags.{marks_of}
 use Rattle.constraint_rows.specs.declared.ops.PlainOp.{PlainOp}

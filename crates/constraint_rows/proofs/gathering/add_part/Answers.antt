@@ -1,6 +1,4 @@
-use Rattle.std.proofs.Common.{◌≡◌, ◌≢◌, ◌<◌, List, ap, arith, sym, ◌∙◌, subst, length}
-use Rattle.std.proofs.lemmas.List.{get_or_read}
-use Rattle.std.proofs.lemmas.Int.{ints}
+use Rattle.list_laws.proofs.Kit.{◌≡◌, ◌≢◌, ◌<◌, List, ap, arith, sym, ◌∙◌, subst, length, get_or_read, ints}
 use Rattle.std.specs.Prelude.{insert}
 use mir.Syntax.{w64}
 use mir.Val.{to_z, of_z}

@@ -1,6 +1,5 @@
-use Rattle.std.proofs.Common.{◌≡◌, ◌≢◌, set, ap, arith, ◌∙◌, rules}
-use Rattle.std.proofs.lemmas.List.{get_or_read}
-use Rattle.std.proofs.lemmas.Int.{ints}
+use Rattle.list_laws.proofs.Kit.{◌≡◌, ◌≢◌, ap, arith, ◌∙◌, rules, get_or_read, ints}
+use Rattle.std.proofs.Common.{set}
 use lib.IntN.{ℤ, pos, ◌+ℤ◌}
 use mir.Syntax.{w64}
 use mir.Val.{SFits, to_z, of_z}

@@ -1,6 +1,5 @@
 use Rattle.std.proofs.Common.{◌≡◌, ◌-◌, ◌<◌, true, length, arith}
-use Rattle.tensor_rank.specs.Orders.{before_at}
-use Rattle.tensor_rank.specs.StrictOrders.{orders_strict}
+use Rattle.tensor_rank.specs.Prelude.{before_at, orders_strict}
 use Rattle.constraint_rows.specs.Gathering.{part_at_place}
 use Rattle.constraint_rows.proofs.GatherLaws.{before_front}
 use Rattle.constraint_rows.proofs.gathering.place_for.Goals as goal

@@ -1,7 +1,6 @@
 use Rattle.std.proofs.Common.{◌≡◌, ◌≢◌, ◌+◌, ◌*◌, ◌<◌, List, ◌++◌, ◌∷◌, [], cond, drop, OnOk, append_assoc, ap, sym, ◌∙◌, arith, subst, nat_eq, inl, inr}
 use Rattle.std.proofs.lemmas.Bool.{cases_eq}
-use Rattle.tensor_defs.specs.Tensor.{digit, index_of}
-use Rattle.tensor_defs.specs.Words.{Word, level}
+use Rattle.tensor_defs.specs.Prelude.{digit, index_of, Word, level}
 use Rattle.tensor_rank.specs.IndexLaws.{nth}
 use Rattle.constraint_rows.specs.Gathering.{letter_of, terms_from, word_at}
 use Rattle.constraint_rows.specs.declared.words.Term.{Term}

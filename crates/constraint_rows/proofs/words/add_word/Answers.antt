@@ -1,8 +1,6 @@
 use Rattle.std.proofs.Common.{◌≡◌, ◌≤◌, ◌++◌, List, length, ap, sym, ◌∙◌, subst}
 use Rattle.tensor_rank.specs.Orders.{before_at}
-use Rattle.constraint_rows.specs.Choices.{is_chosen}
-use Rattle.constraint_rows.specs.Gathering.{AreTermsBelow, terms_from, word_at}
-use Rattle.constraint_rows.specs.WordRows.{AreParts}
+use Rattle.constraint_rows.specs.Prelude.{is_chosen, AreTermsBelow, terms_from, word_at, AreParts}
 use Rattle.constraint_rows.specs.declared.words.Term.{Term}
 use Rattle.constraint_rows.proofs.GatherLaws.{order_total}
 use Rattle.constraint_rows.proofs.WordLaws.{word_made, word_terms_below, word_terms_few}

@@ -1,9 +1,7 @@
 use Rattle.std.proofs.Common.{◌≡◌, List, filter, ap, arith, ◌∙◌, subst}
 use Rattle.tensor_defs.specs.Words.{Word, words}
 use Rattle.tensor_rank.specs.Orders.{before_at}
-use Rattle.constraint_rows.specs.Choices.{is_chosen}
-use Rattle.constraint_rows.specs.Gathering.{words_below}
-use Rattle.constraint_rows.specs.WordRows.{AreWordRows}
+use Rattle.constraint_rows.specs.Prelude.{is_chosen, words_below, AreWordRows}
 use Rattle.constraint_rows.proofs.WordLaws.{words_listed}
 use Rattle.constraint_rows.proofs.words.chosen_rows.Goals as goal
 

@@ -1,6 +1,5 @@
 use Rattle.tensor_rank.specs.Orders.{before_at}
-use Rattle.constraint_rows.specs.Choices.{is_chosen}
-use Rattle.constraint_rows.specs.Gathering.{AreRowsBelow}
+use Rattle.constraint_rows.specs.Prelude.{is_chosen, AreRowsBelow}
 use Rattle.constraint_rows.proofs.words.chosen_rows.Given as goal
 
 abbrev pub invariant-loop-number : goal.invariant-loop-number

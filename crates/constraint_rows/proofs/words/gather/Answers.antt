@@ -1,7 +1,6 @@
 use Rattle.std.proofs.Common.{ap, arith, sym, ◌∙◌, subst}
 use Rattle.tensor_rank.specs.Orders.{before_at}
-use Rattle.constraint_rows.specs.Gathering.{AreSmallParts, term_added}
-use Rattle.constraint_rows.specs.WordRows.{AreParts}
+use Rattle.constraint_rows.specs.Prelude.{AreSmallParts, term_added, AreParts}
 use Rattle.constraint_rows.proofs.GatherLaws.{gathered_more, gathered_small}
 use Rattle.constraint_rows.proofs.words.gather.Goals as goal
 

@@ -1,8 +1,7 @@
-use Rattle.std.proofs.Common.{◌∙◌, sym, ap}
+use Rattle.list_laws.proofs.Kit.{◌∙◌, sym, ap, true}
 use Rattle.tensor_defs.specs.declared.Setting.{Setting}
 use Rattle.tensor_defs.specs.declared.Direction.{Direction}
 use Rattle.tensor_defs.specs.Symbols.{operation_of, turned_to}
-use Rattle.std.proofs.Common.{true}
 use Rattle.dialects.specs.Tables.{piece_of}
 use Rattle.dialects.proofs.Pieces.{primed_told}
 use Rattle.dialects.proofs.long_texts.has_primed.Goals as goal

@@ -1,9 +1,5 @@
 use Rattle.std.proofs.Common.{List, ◌∙◌, subst, sym}
-use Rattle.tensor_defs.specs.Frames.{IsFramed}
-use Rattle.tensor_defs.specs.Group.{InGroup}
-use Rattle.tensor_defs.specs.Lists.{IsListing}
-use Rattle.tensor_defs.specs.Operation.{Operation}
-use Rattle.tensor_defs.specs.OperationOrder.{comes_before}
+use Rattle.tensor_defs.specs.Prelude.{IsFramed, InGroup, IsListing, Operation, comes_before}
 use Rattle.magnetic_groups.specs.Sets.{In}
 use Rattle.reduced_form.proofs.ToldLaws.{err_same}
 use Rattle.state_answers.proofs.Outside.{none_outside, refusal_told}

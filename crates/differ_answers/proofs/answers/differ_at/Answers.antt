@@ -1,5 +1,4 @@
-use Rattle.std.proofs.Common.{inl, inr}
-use Rattle.std.proofs.lemmas.Result.{IfErr-weaker, on_ok_weaker}
+use Rattle.list_laws.proofs.Kit.{inl, inr, IfErr-weaker, on_ok_weaker}
 use Rattle.jahn_grammar.specs.Symbols.{symbol_of}
 use Rattle.reduced_form.proofs.ToldLaws.{err_same}
 use Rattle.differ_answers.proofs.StateTexts.{grows_back, grows_told, text_told}

@@ -1,5 +1,4 @@
-use Rattle.std.proofs.Common.{◌≡◌, ◌++◌, ◌∙◌, List, ℕ, length, ap, subst, sym}
-use Rattle.std.proofs.lemmas.Result.{IfErr-weaker, on_ok_weaker}
+use Rattle.list_laws.proofs.Kit.{◌≡◌, ◌++◌, ◌∙◌, List, ℕ, length, ap, subst, sym, IfErr-weaker, on_ok_weaker}
 use Rattle.text_defs.specs.AnswerTexts.{differ_header}
 use Rattle.jahn_grammar.specs.Symbols.{symbol_of}
 use Rattle.magnetic_groups.specs.Sets.{In}

@@ -1,7 +1,6 @@
 use Rattle.std.proofs.Common.{◌≡◌, ◌++◌, ◌≤◌, vec_capacity}
 use Rattle.std.specs.Prelude.{take}
-use Rattle.text_defs.specs.AnswerTexts.{free_names}
-use Rattle.text_defs.specs.NumberTexts.{spaced}
+use Rattle.text_defs.specs.Prelude.{free_names, spaced}
 use Rattle.reduced_form.specs.Forms.{form_table}
 use Rattle.differ_answers.proofs.headers.write_free.Given as goal
 

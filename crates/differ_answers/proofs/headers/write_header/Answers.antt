@@ -1,8 +1,6 @@
 use Rattle.std.specs.Prelude.{codes}
 use Rattle.std.specs.Fmt.{decimal}
-use Rattle.text_defs.specs.AnswerTexts.{free_names, or_none}
-use Rattle.text_defs.specs.GroupTexts.{group_text}
-use Rattle.text_defs.specs.JahnTexts.{jahn_text}
+use Rattle.text_defs.specs.Prelude.{free_names, or_none, group_text, jahn_text}
 use Rattle.jahn_grammar.specs.Symbols.{symbol_of}
 use Rattle.reduced_form.specs.Forms.{form_table}
 use Rattle.differ_answers.proofs.TextLaws.{header_written}

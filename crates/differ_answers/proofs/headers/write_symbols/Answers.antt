@@ -1,6 +1,5 @@
 use Rattle.std.specs.Prelude.{codes}
-use Rattle.text_defs.specs.GroupTexts.{group_text}
-use Rattle.text_defs.specs.JahnTexts.{jahn_text}
+use Rattle.text_defs.specs.Prelude.{group_text, jahn_text}
 use Rattle.jahn_grammar.specs.Symbols.{symbol_of}
 use Rattle.differ_answers.proofs.TextLaws.{symbols_written}
 use Rattle.differ_answers.proofs.headers.write_symbols.Goals as goal

@@ -1,6 +1,5 @@
-use Rattle.std.proofs.Common.{◌≡◌, ◌++◌, ◌∷◌, ◌∙◌, [], List, ℕ, ap, slice_range}
+use Rattle.list_laws.proofs.Kit.{◌≡◌, ◌++◌, ◌∷◌, ◌∙◌, [], List, ℕ, ap, slice_range, decimal}
 use Rattle.std.specs.Prelude.{codes}
-use Rattle.std.specs.Fmt.{decimal}
 use Rattle.text_defs.specs.AnswerTexts.{line_of}
 use Rattle.differ_answers.proofs.StandingLaws.{again_written}
 use Rattle.differ_answers.proofs.known.write_again.Goals as goal

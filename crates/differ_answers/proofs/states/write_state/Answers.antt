@@ -1,6 +1,5 @@
-use Rattle.std.proofs.Common.{◌≡◌, ◌++◌, ◌∷◌, [], ◌∙◌, List, ℕ, ap, length, arith}
+use Rattle.list_laws.proofs.Kit.{◌≡◌, ◌++◌, ◌∷◌, [], ◌∙◌, List, ℕ, ap, length, arith, decimal}
 use Rattle.std.specs.Prelude.{codes}
-use Rattle.std.specs.Fmt.{decimal}
 use Rattle.text_defs.specs.AnswerTexts.{line_of}
 use Rattle.reduced_form.specs.Texts.{lines_upto}
 use Rattle.reduced_form.proofs.TextLaws.{lines_grown, lines_start}

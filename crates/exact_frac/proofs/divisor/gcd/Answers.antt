@@ -1,6 +1,4 @@
-use Rattle.std.proofs.Common.{arith, sym, subst}
-use Rattle.std.specs.Int.{IsGcd}
-use Rattle.std.proofs.lemmas.Nat.Gcd.{IsGcd-from_zero, IsGcd-from_mod}
+use Rattle.list_laws.proofs.Kit.{arith, sym, subst, IsGcd, IsGcd-from_zero, IsGcd-from_mod}
 use Rattle.exact_frac.proofs.Divisors.{gcd-one, gcd-positive}
 use Rattle.exact_frac.proofs.divisor.gcd.Goals as goal
 

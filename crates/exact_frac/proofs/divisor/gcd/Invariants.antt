@@ -1,5 +1,4 @@
-use Rattle.std.proofs.Common.{ℕ}
-use Rattle.std.specs.Int.{IsGcd}
+use Rattle.list_laws.proofs.Kit.{ℕ, IsGcd}
 use Rattle.exact_frac.proofs.divisor.gcd.Given as goal
 
 abbrev pub invariant-loop-y : goal.invariant-loop-y

@@ -1,6 +1,5 @@
-use Rattle.std.proofs.Common.{◌≡◌, ◌<◌, ◌∙◌, ap, sym, subst, inl, inr}
+use Rattle.list_laws.proofs.Kit.{◌≡◌, ◌<◌, ◌∙◌, ap, sym, subst, inl, inr, IsGcd}
 use Rattle.std.specs.Prelude.{unsigned_abs}
-use Rattle.std.specs.Int.{IsGcd}
 use Rattle.tensor_defs.specs.Number.{limit}
 use Rattle.exact_frac.proofs.Signs.{size-signed}
 use Rattle.exact_frac.proofs.Parts.{reaches}

@@ -1,13 +1,10 @@
-use Rattle.std.proofs.Common.{◌≡◌, ◌*◌, ◌/◌, ◌∙◌, ap, sym, subst}
+use Rattle.list_laws.proofs.Kit.{◌≡◌, ◌*◌, ◌/◌, ◌∙◌, ap, sym, subst, IsGcd, to_z-of_z}
 use Rattle.std.specs.Prelude.{unsigned_abs}
-use Rattle.std.specs.Int.{IsGcd}
-use Rattle.std.proofs.lemmas.Int.{to_z-of_z}
 use lib.IntN.{pos}
 use lib.Signed.{lt_z}
 use mir.Syntax.{w128}
 use mir.Val.{to_z, of_z}
-use Rattle.tensor_defs.specs.Number.{over}
-use Rattle.tensor_defs.specs.IntRing.{positive_mul}
+use Rattle.tensor_defs.specs.Prelude.{over, positive_mul}
 use Rattle.exact_frac.specs.Held.{signed, is_negative}
 use Rattle.exact_frac.specs.Exact.{IsExact}
 use Rattle.exact_frac.proofs.Divisors.{factor-2, part-positive, sum-parts, sum-top, sum-bottom}

@@ -1,8 +1,6 @@
 use Rattle.std.proofs.Common.{ℕ, List, [], ◌∷◌, inr, refl}
 use Rattle.tensor_defs.specs.Symbols.{GroupSymbol}
-use Rattle.text_defs.specs.Answers.{AnswersRequest, AreJoined, IsFormText}
-use Rattle.text_defs.specs.AnswerTexts.{form_text}
-use Rattle.text_defs.specs.Requests.{JahnAt, Request}
+use Rattle.text_defs.specs.Prelude.{AnswersRequest, AreJoined, IsFormText, form_text, JahnAt, Request}
 use Rattle.generated_runs.specs.Told.{AnswersFree, AreFormsFree}
 use Rattle.generated_runs.proofs.Passed.{not_passed}
 use Rattle.generated_runs.proofs.laws.answered_lines.Goals as goal

@@ -1,5 +1,4 @@
-use Rattle.std.proofs.Common.{◌∙◌, List, length, ap, sym, subst, arith}
-use Rattle.std.proofs.lemmas.List.{length_push}
+use Rattle.list_laws.proofs.Kit.{◌∙◌, List, length, ap, sym, subst, arith, length_push}
 use Rattle.tensor_rank.specs.Flags.{marks_of}
 use Rattle.given_tensors.specs.Carried.{AreCarried, IsListAt}
 use Rattle.given_tensors.specs.declared.carried.Carried.{Carried}

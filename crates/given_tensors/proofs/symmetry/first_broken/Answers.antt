@@ -1,5 +1,4 @@
-use Rattle.std.proofs.Common.{◌≡◌, subst, arith, inl, inr}
-use Rattle.std.proofs.lemmas.Bool.{cases_lt}
+use Rattle.list_laws.proofs.Kit.{◌≡◌, subst, arith, inl, inr, cases_lt}
 use Rattle.tensor_action.specs.Acting.{tensor_of}
 use Rattle.given_tensors.specs.Verdicts.{Follows}
 use Rattle.given_tensors.proofs.Symmetric.{symmetric_kept}

@@ -1,6 +1,5 @@
-use Rattle.std.proofs.Common.{◌≡◌, ◌-◌, arith, length, drop, take, Ok, Err, eqb}
-use Rattle.std.proofs.lemmas.Result.{err_from_is_err_and}
-use Rattle.std.proofs.lemmas.List.{take_all, length-drop}
+use Rattle.list_laws.proofs.Kit.{◌≡◌, ◌-◌, arith, length, drop, take, Ok, Err, eqb, err_from_is_err_and, take_all}
+use Rattle.std.proofs.lemmas.List.{length-drop}
 use Rattle.text_defs.specs.Languages.{IsFaulty}
 use Rattle.group_symbol.specs.Walks.{walk}
 use Rattle.group_symbol.specs.Parts.{IsEnding}

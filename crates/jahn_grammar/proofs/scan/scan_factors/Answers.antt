@@ -1,6 +1,5 @@
-use Rattle.std.proofs.Common.{◌≡◌, ℕ, ◌+◌, ◌-◌, ◌<◌, length, drop, take, List, arith, subst, refl}
-use Rattle.std.proofs.lemmas.Result.{err_from_is_err_and}
-use Rattle.std.proofs.lemmas.List.{take_all, length-drop}
+use Rattle.list_laws.proofs.Kit.{◌≡◌, ℕ, ◌+◌, ◌-◌, ◌<◌, length, drop, take, List, arith, subst, refl, err_from_is_err_and, take_all}
+use Rattle.std.proofs.lemmas.List.{length-drop}
 use Rattle.jahn_grammar.specs.Views.{MarksAre}
 use Rattle.jahn_grammar.proofs.Scans.{Scanned, Scanned-end, Ready, Ready-first, Ready-marks, Ready-faulty, Ready-more, Ready-only, factor_goes}
 use Rattle.jahn_grammar.proofs.scan.scan_factors.Goals as goal

@@ -1,12 +1,9 @@
 use Rattle.std.proofs.Common.{List, [], sym, subst}
-use Rattle.tensor_defs.specs.Elimination.{AreUnknowns, GrowsFrom}
-use Rattle.tensor_defs.specs.Lists.{Each}
-use Rattle.tensor_defs.specs.Tensor.{Index}
+use Rattle.tensor_defs.specs.Prelude.{AreUnknowns, GrowsFrom, Each, Index}
 use Rattle.tensor_rank.specs.Orders.{before_at, before_of}
 use Rattle.constraint_rows.specs.WordRows.{AreParts, IsGiven, carrier_of}
 use Rattle.constraint_rows.specs.declared.rows.Part.{Part}
-use Rattle.reduced_form.specs.Forms.{form_table}
-use Rattle.reduced_form.specs.Solving.{FitsSet, IsSolution, lines_at}
+use Rattle.reduced_form.specs.Prelude.{form_table, FitsSet, IsSolution, lines_at}
 use Rattle.reduced_form.proofs.AxisForms.{words_given}
 use Rattle.reduced_form.proofs.ToldLaws.{err_same}
 use Rattle.limiting_groups.proofs.Tables.{curie_calm, curie_fits, curie_grows, turning}

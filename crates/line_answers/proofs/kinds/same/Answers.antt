@@ -1,9 +1,7 @@
 use Rattle.std.proofs.Common.{[], ap, refl, subst, sym, ◌≤◌, ◌+◌}
 use Rattle.std.proofs.lemmas.Result.{err_from_is_err_and}
 use Rattle.tensor_defs.specs.Jahn.{JahnSymbol, rank}
-use Rattle.text_defs.specs.Refusals.{JahnGrows}
-use Rattle.text_defs.specs.Requests.{JahnAt}
-use Rattle.text_defs.specs.Requests.Request.{Same}
+use Rattle.text_defs.specs.Prelude.{JahnGrows, JahnAt, Same}
 use Rattle.jahn_grammar.specs.Symbols.{symbol_of}
 use Rattle.line_runs.specs.declared.refusals.Word.TheVariants as word
 use Rattle.line_answers.specs.Kinds.{group_at}

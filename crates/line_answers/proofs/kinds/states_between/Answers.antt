@@ -1,10 +1,6 @@
 use Rattle.std.proofs.Common.{List, sym, subst}
 use Rattle.std.proofs.lemmas.Result.{IfErr-weaker, IfOk-weaker}
-use Rattle.tensor_defs.specs.Frames.{IsFramed}
-use Rattle.tensor_defs.specs.Group.{InGroup}
-use Rattle.tensor_defs.specs.Lists.{IsListing}
-use Rattle.tensor_defs.specs.Operation.{Operation}
-use Rattle.tensor_defs.specs.OperationOrder.{comes_before}
+use Rattle.tensor_defs.specs.Prelude.{IsFramed, InGroup, IsListing, Operation, comes_before}
 use Rattle.magnetic_groups.specs.Sets.{In}
 use Rattle.state_answers.proofs.Outside.{none_outside, refusal_told}
 use Rattle.line_answers.proofs.StopLaws.{if_ok_on}

@@ -1,10 +1,7 @@
 use Rattle.std.proofs.Common.{[], ◌+◌, ◌≤◌, ◌∙◌, ap, refl, subst, sym, Err}
 use Rattle.std.proofs.lemmas.Result.{err_from_is_err_and}
-use Rattle.tensor_defs.specs.Jahn.{JahnSymbol, rank}
-use Rattle.tensor_defs.specs.Voigt.{HasVoigtShape}
-use Rattle.text_defs.specs.Refusals.{JahnGrows}
-use Rattle.text_defs.specs.Requests.{JahnAt}
-use Rattle.text_defs.specs.Requests.Request.{Voigt}
+use Rattle.tensor_defs.specs.Prelude.{JahnSymbol, rank, HasVoigtShape}
+use Rattle.text_defs.specs.Prelude.{JahnGrows, JahnAt, Voigt}
 use Rattle.jahn_grammar.specs.Symbols.{symbol_of}
 use Rattle.line_runs.specs.declared.refusals.Word.TheVariants as word
 use Rattle.line_answers.specs.Kinds.{IsVoigtFree, group_at}

@@ -1,6 +1,5 @@
 use Rattle.std.proofs.Common.{◌≤◌, take}
-use Rattle.tensor_defs.specs.Jahn.{rank}
-use Rattle.tensor_defs.specs.Lists.{Each}
+use Rattle.tensor_defs.specs.Prelude.{rank, Each}
 use Rattle.line_answers.specs.Kinds.{IsTold}
 use Rattle.line_answers.proofs.tensors.list_in_rank.Given as goal
 

@@ -1,6 +1,5 @@
 use Rattle.std.proofs.Common.{◌≡◌, ◌↔◌, IsTrue, true, false, sym, rules, subst, List, ℕ}
-use Rattle.text_defs.specs.Answers.{IsAnswer}
-use Rattle.text_defs.specs.Refusals.{IsRefused}
+use Rattle.text_defs.specs.Prelude.{IsAnswer, IsRefused}
 use Rattle.line_runs.specs.declared.lines.LineEnd.TheVariants.{Refused}
 use Rattle.line_runs.proofs.LongLines.{held_slow, on_err, refused_long, stands_false}
 use Rattle.line_runs.proofs.lines.make_answer.Goals as goal

@@ -1,5 +1,4 @@
-use Rattle.std.proofs.Common.{sym, ◌∙◌, ap, subst}
-use Rattle.std.specs.Option.{IfSome}
+use Rattle.list_laws.proofs.Kit.{sym, ◌∙◌, ap, subst, IfSome}
 use Rattle.line_runs.specs.Outcomes.{outcome_at}
 use Rattle.line_runs.specs.Runs.{Leaves}
 use Rattle.line_runs.specs.declared.outcome.Outcome.{Outcome}

@@ -1,7 +1,5 @@
 use Rattle.std.proofs.Common.{◌+◌, refl, sym, subst, arith}
-use Rattle.tensor_defs.specs.Lists.{IsListing}
-use Rattle.tensor_defs.specs.OperationOrder.{comes_before}
-use Rattle.tensor_defs.specs.States.{InPairGroup}
+use Rattle.tensor_defs.specs.Prelude.{IsListing, comes_before, InPairGroup}
 use Rattle.op_matrix.specs.Table.{place}
 use Rattle.op_matrix.proofs.Order.{placed}
 use Rattle.magnetic_groups.proofs.Members.{member_framed}

@@ -1,7 +1,6 @@
 use Rattle.std.proofs.Common.{ℕ, ◌<◌}
 use Rattle.std.specs.Prelude.{slice_index_or}
-use Rattle.tensor_defs.specs.Operation.{Operation}
-use Rattle.tensor_defs.specs.Frames.{IsPlain}
+use Rattle.tensor_defs.specs.Prelude.{Operation, IsPlain}
 use Rattle.magnetic_groups.proofs.Group.is_all_plain.Given as goal
 
 abbrev pub invariant-loop-place : goal.invariant-loop-place

@@ -1,6 +1,4 @@
-use Rattle.std.proofs.Common.{◌≡◌, ◌+◌, ◌-◌, sym, ◌∙◌, ap, arith}
-use Rattle.std.specs.Int.{bit_at}
-use Rattle.std.proofs.lemmas.Nat.Bits.{bit_at-zero}
+use Rattle.list_laws.proofs.Kit.{◌≡◌, ◌+◌, ◌-◌, sym, ◌∙◌, ap, arith, bit_at, bit_at-zero}
 use Rattle.list_laws.proofs.Digits.{shifted_digit, next_told}
 use Rattle.magnetic_groups.proofs.closing.next_digit.Goals as goal
 

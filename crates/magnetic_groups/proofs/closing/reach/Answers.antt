@@ -1,5 +1,4 @@
-use Rattle.std.proofs.Common.{sym, ◌∙◌}
-use Rattle.std.proofs.lemmas.List.{get_or_default}
+use Rattle.list_laws.proofs.Kit.{sym, ◌∙◌, get_or_default}
 use Rattle.magnetic_groups.proofs.Reaching.{reaching_more, spanned_framed, reached_spanned, reached_more}
 use Rattle.magnetic_groups.proofs.closing.reach.Goals as goal
 

@@ -1,5 +1,4 @@
-use Rattle.std.proofs.Common.{◌+◌, ◌∙◌, sym, subst}
-use Rattle.std.proofs.lemmas.List.{get_or_default}
+use Rattle.list_laws.proofs.Kit.{◌+◌, ◌∙◌, sym, subst, get_or_default}
 use Rattle.tensor_defs.specs.Operation.{Operation}
 use Rattle.magnetic_groups.specs.Sets.{Spanned}
 use Rattle.magnetic_groups.proofs.Reaching.{spanned_framed, spanned_times, reached_spanned}

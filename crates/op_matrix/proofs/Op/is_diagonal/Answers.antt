@@ -1,9 +1,7 @@
 use Rattle.std.proofs.Common.{◌≡◌, ℕ, ◌<◌, Bool, sym, ap, ◌∙◌, subst}
 use Rattle.std.specs.Prelude.{IsTrue, ◌↔◌}
-use Rattle.tensor_defs.specs.Operation.{Operation}
-use Rattle.tensor_defs.specs.Frames.{IsDiagonal}
-use Rattle.op_matrix.specs.Table.{operation_at}
-use Rattle.op_matrix.specs.View.{both_frame}
+use Rattle.tensor_defs.specs.Prelude.{Operation, IsDiagonal}
+use Rattle.op_matrix.specs.Prelude.{operation_at, both_frame}
 use Rattle.op_matrix.proofs.Products.{frame_code}
 use Rattle.op_matrix.proofs.Hexagonal.{diagonal_at_of, diagonal_at_told}
 use Rattle.op_matrix.proofs.Op.is_diagonal.Goals as goal

@@ -1,9 +1,7 @@
 use Rattle.std.proofs.Common.{◌≡◌, ℕ, ◌<◌, Bool, sym, ap, ◌∙◌, subst}
 use Rattle.std.specs.Prelude.{IsTrue, ◌↔◌}
-use Rattle.tensor_defs.specs.Operation.{Operation}
-use Rattle.tensor_defs.specs.Frames.{IsHexagonal}
-use Rattle.op_matrix.specs.Table.{operation_at}
-use Rattle.op_matrix.specs.View.{hex_frame}
+use Rattle.tensor_defs.specs.Prelude.{Operation, IsHexagonal}
+use Rattle.op_matrix.specs.Prelude.{operation_at, hex_frame}
 use Rattle.op_matrix.proofs.Products.{frame_code}
 use Rattle.op_matrix.proofs.Hexagonal.{hex_of, hex_told}
 use Rattle.op_matrix.proofs.Op.is_hex.Goals as goal

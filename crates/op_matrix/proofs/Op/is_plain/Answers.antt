@@ -1,9 +1,7 @@
 use Rattle.std.proofs.Common.{◌≡◌, ℕ, ◌<◌, Bool, sym, ap, ◌∙◌, subst}
 use Rattle.std.specs.Prelude.{IsTrue, ◌↔◌}
-use Rattle.tensor_defs.specs.Operation.{Operation}
-use Rattle.tensor_defs.specs.Frames.{IsPlain}
-use Rattle.op_matrix.specs.Table.{operation_at}
-use Rattle.op_matrix.specs.View.{plain_frame}
+use Rattle.tensor_defs.specs.Prelude.{Operation, IsPlain}
+use Rattle.op_matrix.specs.Prelude.{operation_at, plain_frame}
 use Rattle.op_matrix.proofs.Products.{frame_code}
 use Rattle.op_matrix.proofs.Hexagonal.{plain_at_of, plain_at_told}
 use Rattle.op_matrix.proofs.Op.is_plain.Goals as goal

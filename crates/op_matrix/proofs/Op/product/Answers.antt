@@ -1,7 +1,6 @@
 use Rattle.std.proofs.Common.{◌≡◌, ℕ, ◌<◌, Bool, true, false, refl, sym, subst}
 use mathlib.Core.Bool.{xor, not, beq}
-use Rattle.tensor_defs.specs.Operation.{Operation, IsProduct}
-use Rattle.tensor_defs.specs.Frames.{HaveCommonFrame}
+use Rattle.tensor_defs.specs.Prelude.{Operation, IsProduct, HaveCommonFrame}
 use Rattle.op_matrix.specs.Table.{operation_at}
 use Rattle.op_matrix.proofs.Products.{product_code, product_at}
 use Rattle.op_matrix.proofs.Hexagonal.{common_of}

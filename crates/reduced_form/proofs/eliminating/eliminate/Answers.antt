@@ -1,11 +1,8 @@
 use Rattle.std.proofs.Common.{◌≡◌, ℕ, ◌<◌, List, [], length, sym, subst}
 use Rattle.constraint_rows.proofs.GatherLaws.{order_total}
-use Rattle.tensor_defs.specs.Elimination.{GrowsFrom}
-use Rattle.tensor_defs.specs.Lists.{Each}
-use Rattle.sparse_rows.specs.KeptRows.{AreGivenRows, IsEliminated, kepts, lines}
-use Rattle.sparse_rows.specs.Solutions.{IsKeptWithin}
-use Rattle.reduced_form.specs.Forms.{free_at}
-use Rattle.reduced_form.specs.Eliminated.{AreSparse, CanPlace}
+use Rattle.tensor_defs.specs.Prelude.{GrowsFrom, Each}
+use Rattle.sparse_rows.specs.Prelude.{AreGivenRows, IsEliminated, kepts, lines, IsKeptWithin}
+use Rattle.reduced_form.specs.Prelude.{free_at, AreSparse, CanPlace}
 use Rattle.reduced_form.proofs.FreeLaws.{free_apart}
 use Rattle.reduced_form.proofs.Systems.{grows_told, kept_within, parts_of, rows_given, rows_place, system_made, told_grows}
 use Rattle.reduced_form.proofs.ToldLaws.{eliminated_fits, err_same}

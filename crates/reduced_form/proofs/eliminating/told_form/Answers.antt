@@ -1,5 +1,4 @@
-use Rattle.std.proofs.Common.{◌<◌, ◌∙◌, sym, subst, length, map}
-use Rattle.std.proofs.lemmas.List.{length-map}
+use Rattle.list_laws.proofs.Kit.{◌<◌, ◌∙◌, sym, subst, length, map, length-map}
 use Rattle.sparse_rows.specs.KeptRows.{kepts}
 use Rattle.reduced_form.proofs.Numbering.{length-kepts}
 use Rattle.reduced_form.proofs.Sums.{pivot_within}

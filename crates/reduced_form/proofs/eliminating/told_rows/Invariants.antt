@@ -1,7 +1,6 @@
 use Rattle.std.proofs.Common.{◌≡◌, ℕ, ◌<◌, length, map}
 use Rattle.constraint_rows.specs.Classes.{class_at}
-use Rattle.reduced_form.specs.Forms.{row_at}
-use Rattle.reduced_form.specs.Eliminated.{class_row}
+use Rattle.reduced_form.specs.Prelude.{row_at, class_row}
 use Rattle.reduced_form.proofs.eliminating.told_rows.Given as goal
 
 abbrev pub invariant-loop-c : goal.invariant-loop-c

@@ -1,8 +1,6 @@
-use Rattle.std.proofs.Common.{◌≡◌, ◌<◌, ◌≤◌, ℕ, List, length, true, arith, rules, inl, inr, subst}
-use Rattle.std.proofs.lemmas.Bool.{cases_lt}
+use Rattle.list_laws.proofs.Kit.{◌≡◌, ◌<◌, ◌≤◌, ℕ, List, length, true, arith, rules, inl, inr, subst, cases_lt}
 use Rattle.tensor_defs.specs.Tensor.{index_of}
-use Rattle.tensor_rank.specs.Orders.{Ordering, before_at}
-use Rattle.tensor_rank.specs.StrictOrders.{orders_are_orders}
+use Rattle.tensor_rank.specs.Prelude.{Ordering, before_at, orders_are_orders}
 use Rattle.reduced_form.specs.Forms.{free_at}
 use Rattle.reduced_form.proofs.free.place_for.Goals as goal
 

@@ -1,5 +1,4 @@
-use Rattle.std.proofs.Common.{◌≡◌, ℕ, ◌+◌, ◌<◌, ◌≤◌, List, length, false, true, sym, ◌∙◌, subst, ap}
-use Rattle.std.specs.List.{insert}
+use Rattle.list_laws.proofs.Kit.{◌≡◌, ℕ, ◌+◌, ◌<◌, ◌≤◌, List, length, false, true, sym, ◌∙◌, subst, ap, insert}
 use Rattle.constraint_rows.proofs.GatherLaws.{order_total}
 use Rattle.sign_moves.specs.Classes.{first_at, vanishes_at}
 use Rattle.tensor_rank.specs.Orders.{before_at}

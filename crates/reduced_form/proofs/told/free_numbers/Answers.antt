@@ -1,7 +1,5 @@
-use Rattle.std.proofs.Common.{◌≡◌, ap, ◌∙◌, length, arith}
-use Rattle.std.proofs.lemmas.List.{length-map}
-use Rattle.reduced_form.specs.Forms.{free_at}
-use Rattle.reduced_form.specs.Eliminated.{free_places, number_at}
+use Rattle.list_laws.proofs.Kit.{◌≡◌, ap, ◌∙◌, length, arith, length-map}
+use Rattle.reduced_form.specs.Prelude.{free_at, free_places, number_at}
 use Rattle.reduced_form.proofs.Numbering.{number_few}
 use Rattle.reduced_form.proofs.told.free_numbers.Goals as goal
 

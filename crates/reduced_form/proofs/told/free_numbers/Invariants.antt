@@ -1,6 +1,5 @@
 use Rattle.std.proofs.Common.{◌≡◌, map}
-use Rattle.reduced_form.specs.Forms.{free_at}
-use Rattle.reduced_form.specs.Eliminated.{AreNumbers, free_places}
+use Rattle.reduced_form.specs.Prelude.{free_at, AreNumbers, free_places}
 use Rattle.reduced_form.proofs.told.free_numbers.Given as goal
 
 abbrev pub invariant-loop-place : goal.invariant-loop-place

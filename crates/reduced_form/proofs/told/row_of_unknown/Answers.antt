@@ -1,7 +1,5 @@
-use Rattle.std.proofs.Common.{◌≡◌, ◌<◌, ap, sym, ◌∙◌, subst, length, map, List, ℕ, arith}
+use Rattle.list_laws.proofs.Kit.{◌≡◌, ◌<◌, ap, sym, ◌∙◌, subst, length, map, List, ℕ, arith, get_or_default, IfOk-weaker}
 use Rattle.std.specs.Prelude.{None, Some}
-use Rattle.std.proofs.lemmas.List.{get_or_default}
-use Rattle.std.proofs.lemmas.Result.{IfOk-weaker}
 use Rattle.tensor_defs.specs.Lists.{Each}
 use Rattle.reduced_form.specs.Eliminated.{entries_at, entry_term, teller, told_by}
 use Rattle.reduced_form.proofs.Numbering.{entries_read}

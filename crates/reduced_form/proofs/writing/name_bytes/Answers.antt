@@ -1,5 +1,4 @@
-use Rattle.std.proofs.Common.{◌≡◌, ◌<◌, ◌≤◌, ◌+◌, ℕ, List, arith, length, ap, sym, ◌∙◌, subst, take}
-use Rattle.std.proofs.lemmas.List.{length-set, take_more_set}
+use Rattle.list_laws.proofs.Kit.{◌≡◌, ◌<◌, ◌≤◌, ◌+◌, ℕ, List, arith, length, ap, sym, ◌∙◌, subst, take, length-set, take_more_set}
 use Rattle.tensor_defs.specs.Tensor.{index_of}
 use Rattle.tensor_laws.proofs.ComponentNumbers.{length-index_of}
 use Rattle.reduced_form.proofs.TextLaws.{name_done, name_grown}

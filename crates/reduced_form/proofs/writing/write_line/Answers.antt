@@ -1,12 +1,8 @@
-use Rattle.std.proofs.Common.{◌≡◌, ◌<◌, ◌^◌, ◌++◌, ℕ, List, length, ap, sym, ◌∙◌, subst, refl, arith, rules, [], ◌∷◌}
-use Rattle.std.proofs.lemmas.Result.{on_ok_weaker}
-use Rattle.tensor_defs.specs.Lists.{Each}
-use Rattle.tensor_defs.specs.Tensor.{index_of}
-use Rattle.text_defs.specs.AnswerTexts.{component_name}
-use Rattle.text_defs.specs.NumberTexts.{sum_text}
+use Rattle.list_laws.proofs.Kit.{◌≡◌, ◌<◌, ◌^◌, ◌++◌, ℕ, List, length, ap, sym, ◌∙◌, subst, refl, arith, rules, [], ◌∷◌, on_ok_weaker}
+use Rattle.tensor_defs.specs.Prelude.{Each, index_of}
+use Rattle.text_defs.specs.Prelude.{component_name, sum_text}
 use Rattle.reduced_form.specs.declared.forms.Term.{Term}
-use Rattle.reduced_form.specs.Forms.{FormValue, row_at}
-use Rattle.reduced_form.specs.Texts.{named_terms}
+use Rattle.reduced_form.specs.Prelude.{FormValue, row_at, named_terms}
 use Rattle.reduced_form.proofs.TextLaws.{sum_line, zero_line}
 use Rattle.reduced_form.proofs.writing.write_line.Goals as goal
 

@@ -2,8 +2,7 @@ use Rattle.std.proofs.Common.{◌≡◌, ℕ, arith, ap, ◌∙◌}
 use Rattle.std.specs.Prelude.{List, ◌++◌}
 use Rattle.tensor_defs.specs.Tensor.{index_of}
 use Rattle.text_defs.specs.AnswerTexts.{component_line}
-use Rattle.reduced_form.specs.Forms.{form_table}
-use Rattle.reduced_form.specs.Texts.{lines_upto}
+use Rattle.reduced_form.specs.Prelude.{form_table, lines_upto}
 use Rattle.reduced_form.proofs.TextLaws.{all_lines, grown_twice, lines_grown, lines_start}
 use Rattle.reduced_form.proofs.writing.write_lines.Goals as goal
 

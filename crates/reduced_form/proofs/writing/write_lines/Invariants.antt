@@ -1,8 +1,7 @@
 use Rattle.std.proofs.Common.{◌≡◌, ◌++◌, ◌≤◌, vec_capacity}
 use Rattle.tensor_defs.specs.Tensor.{index_of}
 use Rattle.text_defs.specs.AnswerTexts.{component_line}
-use Rattle.reduced_form.specs.Forms.{form_table}
-use Rattle.reduced_form.specs.Texts.{lines_upto}
+use Rattle.reduced_form.specs.Prelude.{form_table, lines_upto}
 use Rattle.reduced_form.proofs.writing.write_lines.Given as goal
 
 abbrev pub invariant-loop-number : goal.invariant-loop-number

@@ -1,7 +1,6 @@
 use Rattle.std.proofs.Common.{◌≡◌, ◌-◌, ◌<◌, ◌≤◌, ℕ, suc, List, length, drop, take, arith, subst}
 use Rattle.std.proofs.lemmas.List.{take_all, length-drop}
-use Rattle.text_defs.specs.Languages.{IsFaulty}
-use Rattle.text_defs.specs.JahnTexts.{IsJahnText}
+use Rattle.text_defs.specs.Prelude.{IsFaulty, IsJahnText}
 use Rattle.request_lines.specs.Words.{words_behind}
 use Rattle.request_lines.proofs.WordLists.{Gone, Gone-wrong, Gone-last, Gone-next, Gone-one, Gone-one-wrong}
 use Rattle.request_lines.proofs.lists.scan_list.Goals as goal

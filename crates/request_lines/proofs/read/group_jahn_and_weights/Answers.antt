@@ -1,5 +1,4 @@
-use Rattle.std.proofs.Common.{◌∷◌, []}
-use Rattle.std.proofs.lemmas.Result.{err_from_is_err_and}
+use Rattle.list_laws.proofs.Kit.{◌∷◌, [], err_from_is_err_and}
 use Rattle.request_lines.specs.Words.{JahnSlot, WeightsSlot}
 use Rattle.request_lines.proofs.Positions.{group_later, jahn_later}
 use Rattle.request_lines.proofs.read.group_jahn_and_weights.Goals as goal

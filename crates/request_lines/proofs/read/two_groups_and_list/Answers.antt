@@ -1,5 +1,4 @@
-use Rattle.std.proofs.Common.{◌∷◌, []}
-use Rattle.std.proofs.lemmas.Result.{err_from_is_err_and}
+use Rattle.list_laws.proofs.Kit.{◌∷◌, [], err_from_is_err_and}
 use Rattle.request_lines.specs.Words.{GroupSlot, ListSlot}
 use Rattle.request_lines.proofs.Positions.{group_later}
 use Rattle.request_lines.proofs.read.two_groups_and_list.Goals as goal

@@ -1,7 +1,6 @@
 use Rattle.std.proofs.Common.{◌≡◌, ℕ, ◌+◌, ◌*◌, ◌^◌, ◌<◌, ◌≤◌, List, [], ◌∷◌, ◌++◌, length, get_or, vec_capacity, ap, sym, ◌∙◌, subst, arith}
 use Rattle.sign_moves.specs.declared.tabled.Step.{Step}
-use Rattle.sign_moves.specs.Tabling.{step_at}
-use Rattle.sign_moves.specs.Digits.{part_at, IsDigitRow, IsSpread}
+use Rattle.sign_moves.specs.Prelude.{step_at, part_at, IsDigitRow, IsSpread}
 use Rattle.sign_moves.proofs.DigitLaws.{row_begins, row_goes_on, row_room, row_small}
 use Rattle.sign_moves.proofs.digits.digit_row.Goals as goal
 

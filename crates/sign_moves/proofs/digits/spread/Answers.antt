@@ -1,7 +1,6 @@
 use Rattle.std.proofs.Common.{◌≡◌, ℕ, ◌+◌, ◌*◌, ◌<◌, List, [], ◌∷◌, ◌++◌, length, arith, ap, sym, ◌∙◌, subst}
 use Rattle.sign_moves.specs.declared.tabled.Step.{Step}
-use Rattle.sign_moves.specs.Tabling.{step_at}
-use Rattle.sign_moves.specs.Digits.{joined_step}
+use Rattle.sign_moves.specs.Prelude.{step_at, joined_step}
 use Rattle.sign_moves.proofs.DigitLaws.{spread_more, three_length}
 use Rattle.sign_moves.proofs.digits.spread.Goals as goal
 

@@ -1,6 +1,5 @@
 use Rattle.std.proofs.Common.{vec_capacity, vec_len, ◌≡◌, ℕ, ◌+◌, ◌*◌, ◌<◌, length}
-use Rattle.sign_moves.specs.Tabling.{step_at}
-use Rattle.sign_moves.specs.Digits.{joined_step}
+use Rattle.sign_moves.specs.Prelude.{step_at, joined_step}
 use Rattle.sign_moves.proofs.digits.spread.Given as goal
 
 abbrev pub invariant-loop-j : goal.invariant-loop-j

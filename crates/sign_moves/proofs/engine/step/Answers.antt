@@ -1,13 +1,9 @@
-use Rattle.std.proofs.Common.{◌≡◌, ◌≢◌, ℕ, ◌<◌, ◌≤◌, false, List, ◌++◌, ◌∷◌, [], length, ap, sym, ◌∙◌, refl, subst, le_refl}
-use Rattle.std.proofs.lemmas.List.{get_or_default}
+use Rattle.list_laws.proofs.Kit.{◌≡◌, ◌≢◌, ℕ, ◌<◌, ◌≤◌, false, List, ◌++◌, ◌∷◌, [], length, ap, sym, ◌∙◌, refl, subst, le_refl, get_or_default}
 use Rattle.std.specs.Prelude.{slice_set}
 use denote.Enum.Bare.{differs_true}
 use Rattle.tensor_defs.specs.contracts.Sign.{the_type}
 use Rattle.sign_moves.specs.declared.classes.Entry.{Entry}
-use Rattle.sign_moves.specs.Signs.{times}
-use Rattle.sign_moves.specs.Moves.{Moves}
-use Rattle.sign_moves.specs.Classes.{first_at, sign_at}
-use Rattle.sign_moves.specs.Walks.{item_at, IsStep}
+use Rattle.sign_moves.specs.Prelude.{times, Moves, first_at, sign_at, item_at, IsStep}
 use Rattle.sign_moves.proofs.EngineLaws.{step_joins, step_marks}
 use Rattle.sign_moves.proofs.engine.step.Goals as goal
 

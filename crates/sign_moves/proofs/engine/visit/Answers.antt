@@ -1,8 +1,6 @@
 use Rattle.std.proofs.Common.{◌≡◌, ℕ, ◌+◌, ◌<◌, ◌≤◌, List, length, arith, below_more, le_refl, subst, sym}
 use Rattle.sign_moves.specs.declared.classes.Entry.{Entry}
-use Rattle.sign_moves.specs.Classes.{total_of, first_at}
-use Rattle.sign_moves.specs.Moves.{Moves}
-use Rattle.sign_moves.specs.Walks.{item_at, IsClosed, IsStep}
+use Rattle.sign_moves.specs.Prelude.{total_of, first_at, Moves, item_at, IsClosed, IsStep}
 use Rattle.sign_moves.proofs.EngineLaws.{closed_grows, lengthens_trans, visit_ends}
 use Rattle.sign_moves.proofs.engine.visit.Goals as goal
 

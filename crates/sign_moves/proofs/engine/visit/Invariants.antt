@@ -1,6 +1,5 @@
 use Rattle.std.proofs.Common.{ℕ, ◌+◌, ◌<◌, ◌≤◌, length}
-use Rattle.sign_moves.specs.Classes.{total_of}
-use Rattle.sign_moves.specs.Walks.{item_at, IsClosed, IsWalk, Lengthens}
+use Rattle.sign_moves.specs.Prelude.{total_of, item_at, IsClosed, IsWalk, Lengthens}
 use Rattle.sign_moves.proofs.engine.visit.Given as goal
 
 abbrev pub invariant-loop-place : goal.invariant-loop-place

@@ -1,6 +1,5 @@
 use Rattle.std.proofs.Common.{◌+◌, ◌-◌, ◌≤◌, length}
-use Rattle.sign_moves.specs.Classes.{total_of}
-use Rattle.sign_moves.specs.Walks.{IsWalk}
+use Rattle.sign_moves.specs.Prelude.{total_of, IsWalk}
 use Rattle.sign_moves.proofs.engine.walk.Given as goal
 
 abbrev pub invariant-loop-head : goal.invariant-loop-head

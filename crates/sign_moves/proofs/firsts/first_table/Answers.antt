@@ -1,9 +1,6 @@
-use Rattle.std.proofs.Common.{ℕ, List, subst, sym}
-use Rattle.std.proofs.lemmas.Result.{IfOk-weaker}
+use Rattle.list_laws.proofs.Kit.{ℕ, List, subst, sym, IfOk-weaker}
 use Rattle.sign_moves.specs.declared.classes.Entry.{Entry}
-use Rattle.sign_moves.specs.Classes.{IsClassTable}
-use Rattle.sign_moves.specs.Firsts.{IsFirstTable}
-use Rattle.sign_moves.specs.Moves.{Moves, IsReversible}
+use Rattle.sign_moves.specs.Prelude.{IsClassTable, IsFirstTable, Moves, IsReversible}
 use Rattle.sign_moves.proofs.firsts.first_table.Goals as goal
 
 pub returns : goal.returns

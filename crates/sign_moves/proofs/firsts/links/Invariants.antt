@@ -1,6 +1,5 @@
 use Rattle.std.proofs.Common.{vec_capacity, vec_len, ◌≡◌, ℕ, ◌<◌, length}
-use Rattle.sign_moves.specs.Classes.{entry_at}
-use Rattle.sign_moves.specs.Best.{link_of}
+use Rattle.sign_moves.specs.Prelude.{entry_at, link_of}
 use Rattle.sign_moves.proofs.firsts.links.Given as goal
 
 abbrev pub invariant-loop-c : goal.invariant-loop-c

@@ -1,7 +1,5 @@
 use Rattle.std.proofs.Common.{◌≡◌, ◌<◌, ◌+◌, List, refl, sym, subst, length, drop, arith}
-use Rattle.sparse_rows.specs.Rows.{coeff}
-use Rattle.sparse_rows.specs.KeptRows.{kepts, lines, AreRows}
-use Rattle.sparse_rows.specs.Marks.{AreMarked}
+use Rattle.sparse_rows.specs.Prelude.{coeff, kepts, lines, AreRows, AreMarked}
 use Rattle.sparse_rows.specs.declared.entry.Entry.{Entry}
 use Rattle.sparse_rows.proofs.Lines.{IsState, grows-reducing}
 use Rattle.sparse_rows.proofs.RowSteps.{state-at, skip-at, keep-at, keep-fails, state-done, reduced-same, reducing_same, seen-more, seen-same, kept-same, cannot-same, err-same}

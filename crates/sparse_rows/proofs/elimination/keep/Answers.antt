@@ -1,5 +1,4 @@
-use Rattle.sparse_rows.specs.Rows.{coeff}
-use Rattle.sparse_rows.specs.KeptRows.{kepts}
+use Rattle.sparse_rows.specs.Prelude.{coeff, kepts}
 use Rattle.sparse_rows.proofs.RowSteps.{kept-made}
 use Rattle.sparse_rows.proofs.elimination.keep.Goals as goal
 

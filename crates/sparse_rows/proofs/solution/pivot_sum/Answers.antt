@@ -1,8 +1,5 @@
-use Rattle.std.proofs.Common.{◌≡◌, ◌-◌, suc, sym, subst, length, take, arith, ap}
-use Rattle.std.proofs.lemmas.Result.{IfOk-weaker}
-use Rattle.sparse_rows.specs.Rows.{IsRow}
-use Rattle.sparse_rows.specs.KeptRows.{kept_of}
-use Rattle.sparse_rows.specs.Sums.{IsNegated, IsPivotSum}
+use Rattle.list_laws.proofs.Kit.{◌≡◌, ◌-◌, suc, sym, subst, length, take, arith, ap, IfOk-weaker}
+use Rattle.sparse_rows.specs.Prelude.{IsRow, kept_of, IsNegated, IsPivotSum}
 use Rattle.sparse_rows.proofs.PivotSums.{row-has, row-take, pivot-sum}
 use Rattle.sparse_rows.proofs.solution.pivot_sum.Goals as goal
 

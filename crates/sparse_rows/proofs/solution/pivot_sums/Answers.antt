@@ -1,6 +1,5 @@
 use Rattle.std.proofs.Common.{◌<◌, refl, subst, sym, length, arith, []}
-use Rattle.sparse_rows.specs.KeptRows.{kepts}
-use Rattle.sparse_rows.specs.Sums.{AreSolved}
+use Rattle.sparse_rows.specs.Prelude.{kepts, AreSolved}
 use Rattle.sparse_rows.proofs.RowSteps.{kept-row}
 use Rattle.sparse_rows.proofs.PivotSums.{leading-at, solved-at, solved-end}
 use Rattle.sparse_rows.proofs.solution.pivot_sums.Goals as goal

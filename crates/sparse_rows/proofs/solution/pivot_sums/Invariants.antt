@@ -1,6 +1,5 @@
 use Rattle.std.proofs.Common.{◌≤◌, length, take}
-use Rattle.sparse_rows.specs.KeptRows.{kepts}
-use Rattle.sparse_rows.specs.Sums.{AreSolved}
+use Rattle.sparse_rows.specs.Prelude.{kepts, AreSolved}
 use Rattle.sparse_rows.proofs.solution.pivot_sums.Given as goal
 
 abbrev pub invariant-loop-row : goal.invariant-loop-row

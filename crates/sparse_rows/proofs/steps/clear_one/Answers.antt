@@ -1,7 +1,6 @@
 use Rattle.std.proofs.Common.{◌∙◌, refl, ap, sym, subst}
 use Rattle.tensor_defs.specs.Number.{value_of}
-use Rattle.sparse_rows.specs.Rows.{coeff}
-use Rattle.sparse_rows.specs.KeptRows.{IsFound}
+use Rattle.sparse_rows.specs.Prelude.{coeff, IsFound}
 use Rattle.sparse_rows.proofs.RowSteps.{cleared-copy, cleared-less, difference-same}
 use Rattle.sparse_rows.proofs.steps.clear_one.Goals as goal
 

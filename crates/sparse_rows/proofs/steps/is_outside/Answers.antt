@@ -1,5 +1,4 @@
-use Rattle.std.proofs.Common.{◌<◌, ◌-◌, ◌+◌, ℕ, IsTrue, nat_lt, length, get_or, arith, subst, sym}
-use Rattle.std.proofs.lemmas.Bool.Decides.{nat_tests}
+use Rattle.list_laws.proofs.Kit.{◌<◌, ◌-◌, ◌+◌, ℕ, IsTrue, nat_lt, length, get_or, arith, subst, sym, nat_tests}
 use Rattle.sparse_rows.specs.declared.entry.Entry.{Entry}
 use Rattle.sparse_rows.proofs.RowSteps.{split-start, split-low, split-high, split-end, coeff-empty}
 use Rattle.sparse_rows.proofs.steps.is_outside.Goals as goal

@@ -1,8 +1,6 @@
 use Rattle.std.proofs.Common.{◌≡◌, ◌∙◌, ◌<◌, ◌+◌, ap, sym, subst, length, drop, false, arith}
 use Rattle.tensor_defs.specs.Number.{value_of}
-use Rattle.sparse_rows.specs.Rows.{coeff, IsRow}
-use Rattle.sparse_rows.specs.Marks.{is_marked}
-use Rattle.sparse_rows.specs.KeptRows.{kept_of, kepts, IsFound}
+use Rattle.sparse_rows.specs.Prelude.{coeff, IsRow, is_marked, kept_of, kepts, IsFound}
 use Rattle.sparse_rows.proofs.Marking.{met-less, met-same}
 use Rattle.sparse_rows.proofs.RowSteps.{IsReducing, err-same, reduced-away, reducing-at, reducing-grows, times-same, reducing-skip, reducing-less, difference-same}
 use Rattle.sparse_rows.proofs.steps.reduce_row.Goals as goal

@@ -1,6 +1,5 @@
 use Rattle.std.proofs.Common.{◌≤◌, length, drop}
-use Rattle.sparse_rows.specs.Rows.{coeff, IsRow}
-use Rattle.sparse_rows.specs.KeptRows.{kepts}
+use Rattle.sparse_rows.specs.Prelude.{coeff, IsRow, kepts}
 use Rattle.sparse_rows.proofs.Marking.{AreMet}
 use Rattle.sparse_rows.proofs.RowSteps.{IsReducing}
 use Rattle.sparse_rows.proofs.steps.reduce_row.Given as goal

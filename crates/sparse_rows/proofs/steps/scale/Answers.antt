@@ -1,5 +1,4 @@
-use Rattle.std.proofs.Common.{◌≡◌, ◌≢◌, ◌∙◌, ◌<◌, ◌+◌, ◌-◌, suc, refl, sym, subst, length, drop, arith}
-use Rattle.std.proofs.lemmas.List.{drop_all}
+use Rattle.list_laws.proofs.Kit.{◌≡◌, ◌≢◌, ◌∙◌, ◌<◌, ◌+◌, ◌-◌, suc, refl, sym, subst, length, drop, arith, drop_all}
 use Rattle.list_laws.proofs.Lists.{drop_head}
 use Rattle.tensor_defs.specs.Number.{num_zero, value_of}
 use Rattle.exact_frac.specs.Held.{inverse_of}

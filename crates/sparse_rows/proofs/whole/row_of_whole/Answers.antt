@@ -1,5 +1,4 @@
-use Rattle.std.proofs.Common.{◌≡◌, ◌≢◌, ◌∙◌, ◌<◌, ◌+◌, refl, sym, subst, length, get_or, drop, arith, true, false}
-use Rattle.std.proofs.lemmas.List.{get_or_default}
+use Rattle.list_laws.proofs.Kit.{◌≡◌, ◌≢◌, ◌∙◌, ◌<◌, ◌+◌, refl, sym, subst, length, get_or, drop, arith, true, false, get_or_default}
 use Rattle.tensor_defs.specs.Number.{num_zero, whole, value_of}
 use Rattle.exact_frac.specs.Held.{IsHeldAs}
 use Rattle.sparse_rows.specs.WholeRows.{whole_line}

@@ -1,5 +1,4 @@
-use Rattle.std.proofs.Common.{◌-◌, arith}
-use Rattle.std.proofs.lemmas.Option.{slice_get_within}
+use Rattle.list_laws.proofs.Kit.{◌-◌, arith, slice_get_within}
 use Rattle.magnetic_groups.proofs.Cosets.{group_common, group_product}
 use Rattle.species.proofs.StateMarks.{inverse_within, rep_within, seen_apart}
 use Rattle.species.proofs.apart.are_apart.Goals as goal

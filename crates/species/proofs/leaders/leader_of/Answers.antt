@@ -1,5 +1,4 @@
-use Rattle.std.proofs.Common.{◌≡◌, arith, sym, ◌∙◌}
-use Rattle.std.proofs.lemmas.Bool.{false≢true}
+use Rattle.list_laws.proofs.Kit.{◌≡◌, arith, sym, ◌∙◌, false≢true}
 use Rattle.magnetic_groups.specs.Sets.{In}
 use Rattle.species.proofs.ToldApart.{not_own}
 use Rattle.species.proofs.StateMarks.{apart_more}

@@ -1,5 +1,4 @@
-use Rattle.std.proofs.Common.{◌+◌, length, arith, ap, ◌∙◌}
-use Rattle.std.proofs.lemmas.List.{length_push}
+use Rattle.list_laws.proofs.Kit.{◌+◌, length, arith, ap, ◌∙◌, length_push}
 use Rattle.magnetic_groups.specs.Sets.{In}
 use Rattle.species.proofs.StateMarks.{leaders_done, leaders_more}
 use Rattle.species.proofs.leaders.leaders_of.Goals as goal

@@ -1,5 +1,4 @@
-use Rattle.std.proofs.Common.{◌≡◌, [], ◌∷◌, map, string_bytes, subst, rules, arith}
-use Rattle.std.proofs.lemmas.Grind.{common_steps}
+use Rattle.list_laws.proofs.Kit.{◌≡◌, [], ◌∷◌, map, string_bytes, subst, rules, arith, common_steps}
 use Rattle.std.specs.Prelude.{IfOk}
 use Rattle.tool_runs.specs.Tools.{Words}
 use Rattle.species_runs.specs.Stops.{IsAnswered}

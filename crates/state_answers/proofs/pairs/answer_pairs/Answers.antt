@@ -1,11 +1,7 @@
-use Rattle.std.proofs.Common.{◌≡◌, ℕ, List, ◌++◌, ap, subst, ◌∙◌, sym}
+use Rattle.list_laws.proofs.Kit.{◌≡◌, ℕ, List, ◌++◌, ap, subst, ◌∙◌, sym, on_ok_weaker, err_from_is_err_and}
 use Rattle.std.specs.Prelude.{map, length}
-use Rattle.std.proofs.lemmas.Result.{on_ok_weaker, err_from_is_err_and}
-use Rattle.tensor_defs.specs.Operation.{Operation}
-use Rattle.tensor_defs.specs.Group.{InGroup, SameSet}
-use Rattle.tensor_defs.specs.States.{AreStates}
+use Rattle.tensor_defs.specs.Prelude.{Operation, InGroup, SameSet, AreStates, ArePairClasses}
 use Rattle.tensor_defs.specs.PairClasses as defs
-use Rattle.tensor_defs.specs.PairClasses.{ArePairClasses}
 use Rattle.text_defs.specs.AnswerTexts.{pairs_text}
 use Rattle.magnetic_groups.specs.Sets.{In}
 use Rattle.twin_pairs.specs.Classes.{class_of}

@@ -1,5 +1,4 @@
-use Rattle.std.proofs.Common.{List, ℕ, ◌++◌, ap, ◌∙◌}
-use Rattle.std.proofs.lemmas.Result.{on_ok_weaker}
+use Rattle.list_laws.proofs.Kit.{List, ℕ, ◌++◌, ap, ◌∙◌, on_ok_weaker}
 use Rattle.twin_pairs.specs.Classes.{class_of}
 use Rattle.state_answers.proofs.ClassTexts.{class_joined}
 use Rattle.state_answers.proofs.pairs.write_class.Goals as goal

@@ -1,6 +1,5 @@
-use Rattle.std.proofs.Common.{◌≡◌, ◌++◌, ◌≤◌, take, vec_capacity}
+use Rattle.list_laws.proofs.Kit.{◌≡◌, ◌++◌, ◌≤◌, take, vec_capacity, decimal}
 use Rattle.std.specs.Prelude.{map}
-use Rattle.std.specs.Fmt.{decimal}
 use Rattle.text_defs.specs.NumberTexts.{spaced}
 use Rattle.answer_writers.specs.Rows.{IsLonger}
 use Rattle.state_answers.proofs.pairs.write_members.Given as goal

@@ -1,6 +1,5 @@
 use Rattle.std.proofs.lemmas.Result.{on_ok_weaker, err_from_is_err_and}
-use Rattle.tensor_defs.specs.Group.{InGroup}
-use Rattle.tensor_defs.specs.States.{AreStates}
+use Rattle.tensor_defs.specs.Prelude.{InGroup, AreStates}
 use Rattle.magnetic_groups.specs.Sets.{In}
 use Rattle.state_answers.proofs.SameSets.{states_same}
 use Rattle.state_answers.proofs.Outside.{none_outside, refusal_told}

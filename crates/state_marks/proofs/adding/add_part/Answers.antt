@@ -1,5 +1,4 @@
-use Rattle.std.proofs.Common.{◌≡◌, ◌∙◌, length, sym, arith}
-use Rattle.std.proofs.lemmas.Bool.{eqb-true}
+use Rattle.list_laws.proofs.Kit.{◌≡◌, ◌∙◌, length, sym, arith, eqb-true}
 use Rattle.sign_moves.specs.Signs.{signed}
 use Rattle.tensor_action.specs.Factors.{product_number}
 use Rattle.state_marks.proofs.Parts.{adding-end, adding-start}

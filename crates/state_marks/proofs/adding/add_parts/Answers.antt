@@ -1,7 +1,5 @@
 use Rattle.std.proofs.Common.{◌≡◌, ◌<◌, ◌^◌, ◌∙◌, List, length, map, ap, subst, sym, arith}
-use Rattle.tensor_defs.specs.Lists.{Each, IsRising}
-use Rattle.tensor_defs.specs.Table.{places_rise}
-use Rattle.tensor_defs.specs.Tensor.{index_of}
+use Rattle.tensor_defs.specs.Prelude.{Each, IsRising, places_rise, index_of}
 use Rattle.tensor_laws.proofs.ComponentNumbers.{length-index_of}
 use Rattle.reduced_form.specs.declared.forms.Term.{Term}
 use Rattle.reduced_form.specs.Forms.{form_table, row_at, term_of}

@@ -1,5 +1,4 @@
-use Rattle.std.proofs.Common.{◌<◌, length, subst, arith}
-use Rattle.std.proofs.lemmas.List.{get_or_read}
+use Rattle.list_laws.proofs.Kit.{◌<◌, length, subst, arith, get_or_read}
 use Rattle.root3_num.specs.Roots.{value_of_root}
 use Rattle.exact_frac.specs.Held.{zero_over_one}
 use Rattle.reduced_form.specs.declared.forms.Term.{Term}

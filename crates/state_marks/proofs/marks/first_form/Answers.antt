@@ -1,9 +1,5 @@
 use Rattle.std.proofs.Common.{List, subst}
-use Rattle.tensor_defs.specs.Elimination.{Grows}
-use Rattle.tensor_defs.specs.Frames.{AllOf, IsPlain}
-use Rattle.tensor_defs.specs.Operation.{Operation}
-use Rattle.tensor_defs.specs.Orders.{index_before}
-use Rattle.tensor_defs.specs.Table.{Fits}
+use Rattle.tensor_defs.specs.Prelude.{Grows, AllOf, IsPlain, Operation, index_before, Fits}
 use Rattle.magnetic_groups.specs.Sets.{In}
 use Rattle.tensor_rank.specs.Orders.{Ordering, before_of}
 use Rattle.reduced_form.specs.Forms.{HasUnitRows, form_table}

@@ -1,5 +1,4 @@
-use Rattle.std.proofs.Common.{◌≡◌, ◌<◌, ◌≤◌, ◌∙◌, length, ap, sym, arith}
-use Rattle.std.proofs.lemmas.List.{get_or_read}
+use Rattle.list_laws.proofs.Kit.{◌≡◌, ◌<◌, ◌≤◌, ◌∙◌, length, ap, sym, arith, get_or_read}
 use Rattle.tensor_defs.specs.Number.{num_zero, value_of}
 use Rattle.exact_frac.specs.Held.{zero_over_one}
 use Rattle.reduced_form.specs.declared.forms.Term.{Term}

@@ -1,5 +1,4 @@
-use Rattle.std.proofs.Common.{◌<◌, length, arith}
-use Rattle.std.proofs.lemmas.List.{get_or_read}
+use Rattle.list_laws.proofs.Kit.{◌<◌, length, arith, get_or_read}
 use Rattle.tensor_action.specs.Acting.{zero_root}
 use Rattle.state_marks.proofs.RowLaws.{lists-push}
 use Rattle.state_marks.proofs.rows.terms_of.Goals as goal

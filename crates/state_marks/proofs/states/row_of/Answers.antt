@@ -1,9 +1,6 @@
 use Rattle.std.proofs.Common.{◌≡◌, ◌<◌, ◌^◌, ◌∙◌, length, List, map, subst, sym, arith}
-use Rattle.tensor_defs.specs.Lists.{Each, IsRising}
-use Rattle.tensor_defs.specs.StateRows.{StateRowGrows}
-use Rattle.tensor_defs.specs.Table.{places_rise}
+use Rattle.tensor_defs.specs.Prelude.{Each, IsRising, StateRowGrows, places_rise, index_of}
 use Rattle.reduced_form.proofs.ToldLaws.{err_same}
-use Rattle.tensor_defs.specs.Tensor.{index_of}
 use Rattle.reduced_form.specs.declared.forms.Term.{Term}
 use Rattle.reduced_form.specs.Forms.{form_table, row_at, term_of}
 use Rattle.tensor_rank.specs.Flags.{marks_of}

@@ -1,5 +1,4 @@
-use Rattle.std.proofs.Common.{Global, Vec, ◌∷◌, ◌≤◌, ◌^◌, ◌∙◌, [], map, ap, length, subst, sym, arith}
-use Rattle.std.proofs.lemmas.List.{map-append}
+use Rattle.list_laws.proofs.Kit.{Global, Vec, ◌∷◌, ◌≤◌, ◌^◌, ◌∙◌, [], map, ap, length, subst, sym, arith, map-append}
 use Rattle.tensor_defs.specs.Tensor.{index_of}
 use Rattle.tensor_laws.proofs.ComponentNumbers.{length-index_of}
 use Rattle.reduced_form.specs.Forms.{form_table}

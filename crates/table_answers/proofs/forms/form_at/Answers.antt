@@ -1,10 +1,6 @@
-use Rattle.std.proofs.Common.{◌∙◌, arith, sym}
-use Rattle.std.proofs.lemmas.List.{length-map}
-use Rattle.std.proofs.lemmas.Result.{IfOk-weaker, on_ok_weaker}
-use Rattle.tensor_defs.specs.Tensor.{index_of}
+use Rattle.list_laws.proofs.Kit.{◌∙◌, arith, sym, length-map, IfOk-weaker, on_ok_weaker}
+use Rattle.tensor_defs.specs.Prelude.{index_of, InGroup, index_before}
 use Rattle.tensor_laws.proofs.Sets.{same_back}
-use Rattle.tensor_defs.specs.Group.{InGroup}
-use Rattle.tensor_defs.specs.Orders.{index_before}
 use Rattle.jahn_grammar.specs.Symbols.{symbol_of}
 use Rattle.magnetic_groups.specs.Sets.{In}
 use Rattle.reduced_form.specs.Forms.{form_table}

@@ -1,10 +1,6 @@
-use Rattle.std.proofs.Common.{◌≡◌, ◌++◌, ◌⊎◌, Bool, inl, inr}
-use Rattle.std.proofs.lemmas.Result.{on_ok_weaker}
+use Rattle.list_laws.proofs.Kit.{◌≡◌, ◌++◌, ◌⊎◌, Bool, inl, inr, on_ok_weaker}
 use Rattle.tensor_laws.proofs.Sets.{same_back}
-use Rattle.tensor_defs.specs.Elimination.{Grows}
-use Rattle.tensor_defs.specs.Group.{InGroup}
-use Rattle.tensor_defs.specs.Jahn.{AdmitSame}
-use Rattle.tensor_defs.specs.Orders.{index_before}
+use Rattle.tensor_defs.specs.Prelude.{Grows, InGroup, AdmitSame, index_before}
 use Rattle.text_defs.specs.AnswerTexts.{same_text}
 use Rattle.jahn_grammar.specs.Symbols.{symbol_of}
 use Rattle.magnetic_groups.specs.Sets.{In}

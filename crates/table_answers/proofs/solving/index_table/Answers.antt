@@ -1,7 +1,5 @@
-use Rattle.std.proofs.Common.{subst}
-use Rattle.std.proofs.lemmas.Result.{IfErr-weaker, IfOk-weaker}
-use Rattle.tensor_defs.specs.Elimination.{Grows}
-use Rattle.tensor_defs.specs.Table.{Fits}
+use Rattle.list_laws.proofs.Kit.{subst, IfErr-weaker, IfOk-weaker}
+use Rattle.tensor_defs.specs.Prelude.{Grows, Fits}
 use Rattle.magnetic_groups.specs.Sets.{In}
 use Rattle.tensor_rank.specs.Orders.{Ordering, before_of}
 use Rattle.reduced_form.specs.Forms.{form_table}

@@ -1,8 +1,5 @@
-use Rattle.std.proofs.Common.{◌≡◌, ◌∙◌, subst, sym, arith, Global, Ok, Result, Vec}
-use Rattle.std.proofs.lemmas.Result.{err_from_is_err_and}
-use Rattle.std.specs.Result.{IfErr}
-use Rattle.tensor_defs.specs.Number.{Root3}
-use Rattle.tensor_defs.specs.Tensor.{index_of}
+use Rattle.list_laws.proofs.Kit.{◌≡◌, ◌∙◌, subst, sym, arith, Global, Ok, Result, Vec, err_from_is_err_and, IfErr}
+use Rattle.tensor_defs.specs.Prelude.{Root3, index_of}
 use Rattle.tensor_rank.specs.Flags.{marks_of}
 use Rattle.tensor_action.specs.Acting.{ActGrows, CarriesTo, SumGrows, factor, tensor_of}
 use Rattle.tensor_action.specs.declared.faults.ActFault.{ActFault}

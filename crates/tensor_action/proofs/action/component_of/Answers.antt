@@ -1,7 +1,6 @@
 use Rattle.std.proofs.Common.{◌≡◌, ◌<◌, ◌^◌, ◌∙◌, sym, subst, length, arith, refl, Ok}
 use Rattle.std.specs.Prelude.{◌⊎◌}
-use Rattle.tensor_defs.specs.Number.{ProductReaches, PartReaches, add, mul}
-use Rattle.tensor_defs.specs.Tensor.{index_of}
+use Rattle.tensor_defs.specs.Prelude.{ProductReaches, PartReaches, add, mul, index_of}
 use Rattle.tensor_laws.proofs.ComponentNumbers.{length-index_of}
 use Rattle.root3_num.specs.Roots.{value_of_root}
 use Rattle.tensor_rank.specs.Flags.{marks_of}

@@ -1,6 +1,5 @@
 use Rattle.std.proofs.Common.{◌≡◌, ◌^◌, drop}
-use Rattle.tensor_defs.specs.Number.{mul}
-use Rattle.tensor_defs.specs.Tensor.{coefficient, index_of}
+use Rattle.tensor_defs.specs.Prelude.{mul, coefficient, index_of}
 use Rattle.tensor_action.specs.Factors.{IsWithin, product_number}
 use Rattle.tensor_action.proofs.coefficients.product_between.Given as goal
 

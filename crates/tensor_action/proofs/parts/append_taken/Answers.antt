@@ -1,7 +1,5 @@
-use Rattle.std.proofs.Common.{◌≡◌, ◌<◌, ◌≤◌, refl, ◌+◌, ◌^◌, ◌++◌, ◌∷◌, ◌∙◌, List, length, map, take, ap, subst, sym, arith}
-use Rattle.std.proofs.lemmas.List.{take_all}
-use Rattle.tensor_defs.specs.Lists.{Each}
-use Rattle.tensor_defs.specs.Number.{mul}
+use Rattle.list_laws.proofs.Kit.{◌≡◌, ◌<◌, ◌≤◌, refl, ◌+◌, ◌^◌, ◌++◌, ◌∷◌, ◌∙◌, List, length, map, take, ap, subst, sym, arith, take_all}
+use Rattle.tensor_defs.specs.Prelude.{Each, mul}
 use Rattle.op_matrix.specs.View.{axis}
 use Rattle.list_laws.proofs.Members.{each_at, each_push}
 use Rattle.tensor_action.specs.declared.parts.Part.{Part}

@@ -1,6 +1,5 @@
 use Rattle.std.proofs.Common.{◌≤◌, vec_capacity, vec_len, ◌≡◌, ℕ, ◌++◌, ◌+◌, ◌*◌, ◌<◌, ◌^◌, ◌∷◌, map, take, length}
-use Rattle.tensor_defs.specs.Lists.{Each}
-use Rattle.tensor_defs.specs.Tensor.{Index}
+use Rattle.tensor_defs.specs.Prelude.{Each, Index}
 use Rattle.op_matrix.specs.View.{axis}
 use Rattle.tensor_action.specs.Reaching.{IsPart, numbers}
 use Rattle.tensor_action.proofs.parts.append_taken.Given as goal

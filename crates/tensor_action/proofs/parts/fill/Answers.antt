@@ -1,7 +1,6 @@
 use Rattle.std.proofs.Common.{suc, vec_capacity, ◌≡◌, ◌+◌, ◌-◌, ◌*◌, ◌^◌, ◌<◌, ◌≤◌, ◌∙◌, ◌++◌, ◌∷◌, [], List, drop, length, refl, ap, subst, sym, arith, lit<}
 use Rattle.std.proofs.Math.Nat.{pow-le-pow_right, pow-suc}
-use Rattle.tensor_defs.specs.Lists.{Each}
-use Rattle.tensor_defs.specs.Tensor.{digit, index_of}
+use Rattle.tensor_defs.specs.Prelude.{Each, digit, index_of}
 use Rattle.tensor_laws.proofs.ComponentNumbers.{length-index_of}
 use Rattle.op_matrix.specs.View.{axis}
 use Rattle.tensor_rank.specs.IndexLaws.{nth}

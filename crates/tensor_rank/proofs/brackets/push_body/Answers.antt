@@ -1,5 +1,4 @@
-use Rattle.std.proofs.Common.{◌≡◌, ◌++◌, drop, arith, ap, sym, ◌∙◌}
-use Rattle.std.proofs.Math.ListN.{drop_of_length-le}
+use Rattle.list_laws.proofs.Kit.{◌≡◌, ◌++◌, drop, arith, ap, sym, ◌∙◌, drop_of_length-le}
 use Rattle.jahn_grammar.specs.Trees.{factors_of}
 use Rattle.tensor_rank.proofs.SymmetryLaws.{body_same, append_none}
 use Rattle.tensor_rank.specs.Symmetry.{body_exchanges}

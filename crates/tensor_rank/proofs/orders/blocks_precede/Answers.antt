@@ -1,6 +1,5 @@
 use Rattle.std.proofs.Common.{◌<◌, ◌≤◌, ℕ, nat_lt, ap, sym, ◌∙◌, subst, arith}
-use Rattle.tensor_defs.specs.Orders.{block_numbers}
-use Rattle.tensor_defs.specs.Tensor.{index_of}
+use Rattle.tensor_defs.specs.Prelude.{block_numbers, index_of}
 use Rattle.tensor_laws.proofs.ComponentNumbers.{length-index_of}
 use Rattle.tensor_rank.specs.Orders.{spell, spelled_before}
 use Rattle.tensor_rank.proofs.OrderLaws.{index_order_at, keys_tell, spelled_order}

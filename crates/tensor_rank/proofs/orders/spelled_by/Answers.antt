@@ -1,7 +1,5 @@
-use Rattle.std.proofs.Common.{◌≡◌, ℕ, ◌+◌, ◌*◌, ◌-◌, ◌<◌, ◌≤◌, drop, get_or, arith, ap, sym, ◌∙◌, subst}
-use Rattle.std.proofs.Math.ListN.{drop_of_length-le}
-use Rattle.tensor_defs.specs.Orders.{block_numbers}
-use Rattle.tensor_defs.specs.Tensor.{index_of}
+use Rattle.list_laws.proofs.Kit.{◌≡◌, ℕ, ◌+◌, ◌*◌, ◌-◌, ◌<◌, ◌≤◌, drop, get_or, arith, ap, sym, ◌∙◌, subst, drop_of_length-le}
+use Rattle.tensor_defs.specs.Prelude.{block_numbers, index_of}
 use Rattle.tensor_laws.proofs.ComponentNumbers.{length-index_of}
 use Rattle.tensor_rank.specs.Orders.{AreBlocks, front_number, spell}
 use Rattle.tensor_rank.proofs.OrderLaws.{below_sixth, blocks_next, front_small, spell_below, spell_next}

@@ -1,6 +1,5 @@
 use Rattle.std.proofs.Common.{◌≡◌, ◌-◌, ◌^◌, ◌<◌, ◌≤◌, drop}
-use Rattle.tensor_defs.specs.Orders.{block_numbers}
-use Rattle.tensor_defs.specs.Tensor.{index_of}
+use Rattle.tensor_defs.specs.Prelude.{block_numbers, index_of}
 use Rattle.tensor_rank.specs.Orders.{AreBlocks, spell}
 use Rattle.tensor_rank.proofs.orders.spelled_by.Given as goal
 

@@ -1,8 +1,7 @@
 use Rattle.std.proofs.Common.{ap, sym, ◌∙◌}
 use Rattle.sign_moves.specs.Classes.{first_at}
 use Rattle.tensor_defs.specs.Tensor.{index_of}
-use Rattle.tensor_rank.specs.Orders.{before_of}
-use Rattle.tensor_rank.specs.StrictOrders.{orders_strict}
+use Rattle.tensor_rank.specs.Prelude.{before_of, orders_strict}
 use Rattle.tensor_rank.proofs.FirstLaws.{first_taken}
 use Rattle.tensor_rank.proofs.shapes.earlier.Goals as goal
 

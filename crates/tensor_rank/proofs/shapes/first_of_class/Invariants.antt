@@ -1,5 +1,4 @@
-use Rattle.tensor_rank.specs.Orders.{before_at}
-use Rattle.tensor_rank.specs.Shapes.{IsFirstBelow}
+use Rattle.tensor_rank.specs.Prelude.{before_at, IsFirstBelow}
 use Rattle.tensor_rank.proofs.shapes.first_of_class.Given as goal
 
 abbrev pub invariant-loop-number : goal.invariant-loop-number

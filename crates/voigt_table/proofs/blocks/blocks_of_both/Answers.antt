@@ -1,10 +1,9 @@
-use Rattle.std.proofs.Common.{subst}
+use Rattle.list_laws.proofs.Kit.{subst, [], ◌∷◌}
 use Rattle.std.specs.Prelude.{Option}
 use Rattle.jahn_grammar.specs.Trees.{factor_of}
 use Rattle.voigt_table.specs.declared.blocks.Piece.{Piece}
 use Rattle.voigt_table.specs.Blocks.{TellsPiece}
 use Rattle.voigt_table.proofs.ShapeLaws.{both_given, not_first, not_second}
-use Rattle.std.proofs.Common.{[], ◌∷◌}
 use Rattle.voigt_table.proofs.blocks.blocks_of_both.Goals as goal
 
 pub returns-in-Some-Some : goal.returns-in-Some-Some

@@ -1,6 +1,5 @@
 use Rattle.std.proofs.Common.{subst}
-use Rattle.tensor_defs.specs.Elimination.{Grows}
-use Rattle.tensor_defs.specs.Table.{Fits}
+use Rattle.tensor_defs.specs.Prelude.{Grows, Fits}
 use Rattle.magnetic_groups.specs.Sets.{In}
 use Rattle.tensor_rank.specs.Orders.{Ordering, before_of}
 use Rattle.reduced_form.specs.Forms.{FormValue, form_table}

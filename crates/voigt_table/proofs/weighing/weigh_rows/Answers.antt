@@ -1,8 +1,6 @@
-use Rattle.std.proofs.Common.{◌≡◌, ◌^◌, ◌<◌, ℕ, List, [], length, map, refl, rules, ap, sym, ◌∙◌, subst}
-use Rattle.std.proofs.lemmas.List.{get_or-map, length-map}
+use Rattle.list_laws.proofs.Kit.{◌≡◌, ◌^◌, ◌<◌, ℕ, List, [], length, map, refl, rules, ap, sym, ◌∙◌, subst, get_or-map, length-map}
 use Rattle.tensor_defs.specs.declared.Weights.{Weights}
-use Rattle.tensor_defs.specs.Lists.{Each}
-use Rattle.tensor_defs.specs.Voigt.{rank_of_blocks}
+use Rattle.tensor_defs.specs.Prelude.{Each, rank_of_blocks}
 use Rattle.reduced_form.specs.declared.forms.Term.{Term}
 use Rattle.reduced_form.specs.Forms.{row_at}
 use Rattle.voigt_table.specs.Blocks.{entry_at, entry_count, entry_of, sizes_of}

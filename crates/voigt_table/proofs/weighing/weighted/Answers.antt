@@ -1,6 +1,5 @@
 use Rattle.std.proofs.Common.{◌≡◌, ◌+◌, ◌-◌, ℕ, ap, sym, ◌∙◌, subst, arith}
-use Rattle.tensor_defs.specs.Number.{Number, mul, num_one, value_of}
-use Rattle.tensor_defs.specs.Voigt.{halved}
+use Rattle.tensor_defs.specs.Prelude.{Number, mul, num_one, value_of, halved}
 use Rattle.exact_frac.specs.Exact.{IsExact}
 use Rattle.exact_frac.specs.Held.{inverse_of}
 use Rattle.voigt_table.proofs.WeightLaws.{down, even, pow2, pow2_not_zero, up}

@@ -1,7 +1,6 @@
 use Rattle.std.proofs.Common.{◌≡◌, ◌++◌, ◌<◌, ℕ, List, [], ◌∷◌, arith, rules, length, map, take, false, ap, refl, sym, ◌∙◌, subst}
 use Rattle.tensor_defs.specs.Lists.{Each}
-use Rattle.text_defs.specs.AnswerTexts.{entry_name, has_entry}
-use Rattle.text_defs.specs.NumberTexts.{sum_text}
+use Rattle.text_defs.specs.Prelude.{entry_name, has_entry, sum_text}
 use Rattle.reduced_form.specs.declared.forms.Term.{Term}
 use Rattle.reduced_form.specs.Forms.{row_at}
 use Rattle.voigt_table.specs.Blocks.{entry_at, sizes_of}

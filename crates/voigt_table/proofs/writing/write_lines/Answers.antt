@@ -1,5 +1,4 @@
-use Rattle.std.proofs.Common.{◌≡◌, ℕ, List, arith, ap, sym, ◌∙◌, subst}
-use Rattle.std.specs.List.{flat_map}
+use Rattle.list_laws.proofs.Kit.{◌≡◌, ℕ, List, arith, ap, sym, ◌∙◌, subst, flat_map}
 use Rattle.std.specs.Prelude.{◌++◌}
 use Rattle.tensor_defs.specs.Voigt.{VoigtEntry, entries}
 use Rattle.text_defs.specs.AnswerTexts.{entry_line}

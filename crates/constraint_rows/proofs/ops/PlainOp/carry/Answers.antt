@@ -1,9 +1,8 @@
 use Rattle.std.proofs.Common.{ℕ, subst, arith, ◌≡◌, ◌+◌, ◌-◌, ◌<◌, ◌≤◌, ◌^◌, ap, ◌∙◌, refl}
 use Rattle.tensor_rank.proofs.ExchangeLaws.{front_more}
-use Rattle.tensor_rank.specs.Digits.{digit_of, number_of}
+use Rattle.tensor_rank.specs.Prelude.{digit_of, number_of, nth, digit_place, digit_index}
 use Rattle.sign_moves.specs.Signs.{times}
 use Rattle.tensor_defs.specs.Tensor.{axis_place, index_of}
-use Rattle.tensor_rank.specs.IndexLaws.{nth, digit_place, digit_index}
 use Rattle.constraint_rows.specs.PlainOps.{image, entry_sign, signs_of, op_carried}
 use Rattle.constraint_rows.proofs.OpLaws.{images_small, signs_more, op_carried_within}
 use Rattle.constraint_rows.proofs.ops.PlainOp.carry.Goals as goal

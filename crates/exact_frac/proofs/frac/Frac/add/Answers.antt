@@ -1,15 +1,11 @@
-use Rattle.std.proofs.Common.{◌≡◌, ◌*◌, ◌/◌, ◌≤◌, ◌^◌, ℕ, ◌∙◌, ap, sym, subst, arith, rules}
-use Rattle.std.proofs.Math.Nat.{div-le_self}
+use Rattle.list_laws.proofs.Kit.{◌≡◌, ◌*◌, ◌/◌, ◌≤◌, ◌^◌, ℕ, ◌∙◌, ap, sym, subst, arith, rules, div-le_self, IsGcd, to_z-of_z}
 use Rattle.std.specs.Prelude.{unsigned_abs}
-use Rattle.std.specs.Int.{IsGcd}
-use Rattle.tensor_defs.specs.Number.{over, add, value_of}
-use Rattle.tensor_defs.specs.IntRing.{positive_mul}
+use Rattle.tensor_defs.specs.Prelude.{over, add, value_of, positive_mul}
 use Rattle.exact_frac.specs.Held.{signed}
 use lib.IntN.{pos, ◌+ℤ◌, ◌*ℤ◌}
 use lib.Signed.{lt_z}
 use mir.Val.{SFits}
 use mir.Syntax.{w128}
-use Rattle.std.proofs.lemmas.Int.{to_z-of_z}
 use Rattle.exact_frac.proofs.Signs.{below-zero}
 use Rattle.exact_frac.specs.Exact.{IsExact}
 use Rattle.exact_frac.proofs.Divisors.{factor-1, factor-2, part-positive, sum-lowest}

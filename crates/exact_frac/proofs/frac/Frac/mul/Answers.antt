@@ -1,8 +1,6 @@
-use Rattle.std.proofs.Common.{◌≡◌, ◌*◌, ◌/◌, ◌∙◌, ap, sym, subst}
+use Rattle.list_laws.proofs.Kit.{◌≡◌, ◌*◌, ◌/◌, ◌∙◌, ap, sym, subst, IsGcd}
 use Rattle.std.specs.Prelude.{unsigned_abs}
-use Rattle.std.specs.Int.{IsGcd}
-use Rattle.tensor_defs.specs.Number.{over, mul, value_of}
-use Rattle.tensor_defs.specs.IntRing.{positive_mul}
+use Rattle.tensor_defs.specs.Prelude.{over, mul, value_of, positive_mul}
 use Rattle.exact_frac.specs.Held.{signed, opposite}
 use Rattle.exact_frac.specs.Exact.{IsExact}
 use Rattle.exact_frac.proofs.Divisors.{factor-1, factor-2, part-positive, product-lowest}

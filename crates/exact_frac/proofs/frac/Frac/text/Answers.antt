@@ -1,5 +1,4 @@
-use Rattle.std.proofs.Common.{ℕ, List, ◌≤◌, ◌∙◌, ap, length, subst, sym}
-use Rattle.std.specs.Fmt.{signed_decimal}
+use Rattle.list_laws.proofs.Kit.{ℕ, List, ◌≤◌, ◌∙◌, ap, length, subst, sym, signed_decimal}
 use Rattle.exact_frac.proofs.Texts.{length-den, length-num, length-joined}
 use Rattle.exact_frac.proofs.Wide.{narrow}
 use Rattle.exact_frac.proofs.frac.Frac.text.Goals as goal

@@ -1,5 +1,4 @@
-use Rattle.std.proofs.Common.{arith, ap, length}
-use Rattle.std.proofs.lemmas.List.{length-map}
+use Rattle.list_laws.proofs.Kit.{arith, ap, length, length-map}
 use Rattle.group_symbol.proofs.ParentTexts.{few_count}
 use Rattle.group_symbol.proofs.parents.Parent.operator_list.Goals as goal
 

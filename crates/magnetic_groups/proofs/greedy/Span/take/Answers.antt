@@ -1,7 +1,5 @@
 use Rattle.std.proofs.Common.{◌≡◌, ◌<◌, ◌++◌, ◌∷◌, [], ap, ◌∙◌, sym, subst, length}
-use Rattle.magnetic_groups.specs.Marks.{IsClosed}
-use Rattle.magnetic_groups.specs.Sets.{HaveFrame}
-use Rattle.magnetic_groups.specs.Greedy.{IsSpan}
+use Rattle.magnetic_groups.specs.Prelude.{IsClosed, HaveFrame, IsSpan}
 use Rattle.magnetic_groups.proofs.Reaching.{grows_trans}
 use Rattle.magnetic_groups.proofs.Doubling.{room_left, doubled_closed, taken_span}
 use Rattle.magnetic_groups.proofs.greedy.Span.take.Goals as goal

@@ -1,7 +1,6 @@
 use Rattle.std.proofs.Common.{subst}
 use Rattle.std.specs.Prelude.{IsTrue, ◌↔◌}
-use Rattle.magnetic_groups.specs.Marks.{marked_below}
-use Rattle.magnetic_groups.specs.Sets.{IsWithin}
+use Rattle.magnetic_groups.specs.Prelude.{marked_below, IsWithin}
 use Rattle.magnetic_groups.proofs.MarkedGroups.{marked_within}
 use Rattle.magnetic_groups.proofs.group_marks.GroupMarks.is_subset.Goals as goal
 

@@ -1,6 +1,5 @@
-use Rattle.std.proofs.Common.{◌≡◌, subst}
+use Rattle.list_laws.proofs.Kit.{◌≡◌, subst, bit_at}
 use Rattle.std.specs.Prelude.{◌↔◌}
-use Rattle.std.specs.Int.{bit_at}
 use Rattle.magnetic_groups.specs.Sets.{HasForm, In}
 use Rattle.magnetic_groups.proofs.MarkedGroups.{marked_form}
 use Rattle.magnetic_groups.proofs.group_marks.GroupMarks.matrices.Goals as goal

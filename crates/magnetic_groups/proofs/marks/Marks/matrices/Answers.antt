@@ -1,6 +1,5 @@
-use Rattle.std.proofs.Common.{◌≡◌, ◌+◌, ◌*◌, true, ◌⊎◌, subst}
+use Rattle.list_laws.proofs.Kit.{◌≡◌, ◌+◌, ◌*◌, true, ◌⊎◌, subst, bit_at}
 use Rattle.std.specs.Prelude.{◌↔◌, bit_or}
-use Rattle.std.specs.Int.{bit_at}
 use Rattle.magnetic_groups.specs.Marks.{mark_at}
 use Rattle.magnetic_groups.proofs.Digits.{either_told}
 use Rattle.magnetic_groups.proofs.marks.Marks.matrices.Goals as goal

@@ -1,5 +1,4 @@
-use Rattle.std.proofs.Common.{◌∙◌, ap, sym}
-use Rattle.std.proofs.lemmas.Bool.{false≢true}
+use Rattle.list_laws.proofs.Kit.{◌∙◌, ap, sym, false≢true}
 use Rattle.tensor_defs.specs.Number.{Root3}
 use Rattle.root3_num.specs.Roots.{value_of_root}
 use Rattle.root3_num.proofs.Steps.{root-zero, zero-root}

@@ -1,8 +1,6 @@
-use Rattle.std.proofs.Common.{rules, ◌≡◌, ℕ, ◌<◌, length, map, List, [], ap, sym, ◌∙◌, subst}
-use Rattle.std.proofs.lemmas.List.{get_or-map, get_or_default, length-map}
-use Rattle.sign_moves.specs.Moves.{Moves}
+use Rattle.list_laws.proofs.Kit.{rules, ◌≡◌, ℕ, ◌<◌, length, map, List, [], ap, sym, ◌∙◌, subst, get_or-map, get_or_default, length-map}
+use Rattle.sign_moves.specs.Prelude.{Moves, IsStepRow, IsTabled, step_at, steps_at}
 use Rattle.sign_moves.specs.declared.tabled.Step.{Step}
-use Rattle.sign_moves.specs.Tabling.{IsStepRow, IsTabled, step_at, steps_at}
 use Rattle.sign_moves.proofs.tabled.TabledMoves.carry.Goals as goal
 
 pub index-step-requires : goal.index-step-requires

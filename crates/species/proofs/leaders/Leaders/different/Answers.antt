@@ -1,5 +1,4 @@
-use Rattle.std.proofs.Common.{◌+◌, ℕ, length, ap, arith, subst, sym, ◌∙◌}
-use Rattle.std.proofs.lemmas.Bool.{false≢true}
+use Rattle.list_laws.proofs.Kit.{◌+◌, ℕ, length, ap, arith, subst, sym, ◌∙◌, false≢true}
 use Rattle.species.proofs.Counting.{IsCounting, counting_done, counting_on, counting_one}
 use Rattle.species.proofs.leaders.Leaders.different.Goals as goal
 use Rattle.species.proofs.leaders.Leaders.different.Goals.{then-has, else-has}

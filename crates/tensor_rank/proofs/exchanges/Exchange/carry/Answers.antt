@@ -1,6 +1,5 @@
 use Rattle.std.proofs.Common.{arith, ◌≡◌, ◌<◌, ◌≤◌, ◌^◌, ap, ◌∙◌, refl}
-use Rattle.tensor_rank.specs.Digits.{digit_of, number_of}
-use Rattle.tensor_rank.specs.Exchanges.{partner, exchanged}
+use Rattle.tensor_rank.specs.Prelude.{digit_of, number_of, partner, exchanged}
 use Rattle.tensor_rank.proofs.ExchangeLaws.{front_small, front_more, exchanged_below}
 use Rattle.tensor_rank.proofs.exchanges.Exchange.carry.Goals as goal
 

@@ -1,5 +1,4 @@
-use Rattle.std.proofs.Common.{◌≡◌, ◌≤◌, List, take, length, arith, subst}
-use Rattle.std.proofs.lemmas.Result.{IfOk-weaker}
+use Rattle.list_laws.proofs.Kit.{◌≡◌, ◌≤◌, List, take, length, arith, subst, IfOk-weaker}
 use Rattle.tensor_defs.specs.declared.Sign.{Sign}
 use Rattle.sign_moves.specs.declared.tabled.Step.{Step}
 use Rattle.sign_moves.specs.Digits.{IsDigitRow}

@@ -1,7 +1,6 @@
 use Rattle.std.proofs.Common.{ap, sym, ◌∙◌}
 use Rattle.tensor_defs.specs.Tensor.{index_of}
-use Rattle.tensor_rank.specs.Kinds.{ordering_of}
-use Rattle.tensor_rank.specs.Orders.{before_of}
+use Rattle.tensor_rank.specs.Prelude.{ordering_of, before_of}
 use Rattle.tensor_rank.proofs.orders.Order.before.Goals as goal
 
 pub returns-in-Blocks : goal.returns-in-Blocks

@@ -1,11 +1,8 @@
-use Rattle.std.proofs.Common.{ℕ, List, ap, sym, subst}
-use Rattle.std.proofs.lemmas.Result.{IfOk-weaker}
+use Rattle.list_laws.proofs.Kit.{ℕ, List, ap, sym, subst, IfOk-weaker}
 use Rattle.sign_moves.specs.declared.classes.Entry.{Entry}
-use Rattle.sign_moves.specs.Classes.{IsClassTable}
-use Rattle.sign_moves.specs.Firsts.{IsFirstTable}
+use Rattle.sign_moves.specs.Prelude.{IsClassTable, IsFirstTable}
 use Rattle.tensor_rank.specs.declared.exchanges.Exchange.{Exchange}
-use Rattle.tensor_rank.specs.Exchanges.{exchange_moves}
-use Rattle.tensor_rank.specs.Orders.{before_at}
+use Rattle.tensor_rank.specs.Prelude.{exchange_moves, before_at}
 use Rattle.tensor_rank.proofs.ExchangeLaws.{exchanges_reversible}
 use Rattle.tensor_rank.proofs.shapes.Shape.firsts.Goals as goal
 

@@ -1,11 +1,7 @@
 use Rattle.std.proofs.Common.{◌≡◌, ℕ, ◌<◌, length, List, ap, sym, ◌∙◌, subst}
 use Rattle.sign_moves.specs.declared.classes.Entry.{Entry}
-use Rattle.sign_moves.specs.Classes.{entry_at, first_at, sign_at, IsClassTable}
-use Rattle.sign_moves.specs.Moves.{IsReversible}
-use Rattle.sign_moves.specs.Signs.{times}
-use Rattle.tensor_rank.specs.Exchanges.{exchange_moves}
-use Rattle.tensor_rank.specs.Orders.{before_at}
-use Rattle.tensor_rank.specs.Shapes.{IsFirstBelow}
+use Rattle.sign_moves.specs.Prelude.{entry_at, first_at, sign_at, IsClassTable, IsReversible, times}
+use Rattle.tensor_rank.specs.Prelude.{exchange_moves, before_at, IsFirstBelow}
 use Rattle.tensor_rank.proofs.ExchangeLaws.{exchanges_reversible}
 use Rattle.tensor_rank.proofs.ShapeLaws.{shape_told, root_own, ShapeTells, entry_is, first_of_below, none_told, some_told}
 use Rattle.tensor_rank.proofs.shapes.Shape.representative.Goals as goal

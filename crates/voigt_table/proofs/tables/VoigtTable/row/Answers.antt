@@ -1,5 +1,4 @@
-use Rattle.std.proofs.Common.{◌≡◌, ◌<◌, ℕ, List, [], length, map, ap, sym, ◌∙◌, subst}
-use Rattle.std.proofs.lemmas.List.{get_or-map, length-map}
+use Rattle.list_laws.proofs.Kit.{◌≡◌, ◌<◌, ℕ, List, [], length, map, ap, sym, ◌∙◌, subst, get_or-map, length-map}
 use Rattle.reduced_form.specs.declared.forms.Term.{Term}
 use Rattle.reduced_form.specs.Forms.{row_at}
 use Rattle.voigt_table.specs.Blocks.{entry_count, sizes_of}
