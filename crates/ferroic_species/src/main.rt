@@ -2,32 +2,13 @@
 #![tactic(auto)]
 
 use species_runs::run_species;
-use std::alloc::AllocError;
 use std::process::ExitCode;
-use std::{env, io};
-use tensor_ports::{StdSink, ToolEnd};
-
-/// The words after the program's name; none where they aren't text.
-fn words_of(rt: &HostRuntime) -> Result<Vec<String>, AllocError> {
-    let all = match env::args(rt) {
-        Ok(all) => all,
-        Err(error) => {
-            return match error.kind() {
-                io::ErrorKind::OutOfMemory => Err(AllocError),
-                _ => Ok(Vec::new(rt.alloc())),
-            };
-        }
-    };
-    all.skip(1).collect(rt.alloc())
-}
+use tensor_ports::{StdSink, words_of};
 
 fn main(rt: HostRuntime) -> ExitCode {
     let end = match words_of(&rt) {
-        Ok(words) => {
-            let mut sink = StdSink::new(rt.stdout());
-            run_species(rt.alloc(), &words, &mut sink)
-        }
-        Err(AllocError) => ToolEnd::NoMemory,
+        Ok(words) => run_species(rt.alloc(), &words, &mut StdSink::new(rt.stdout())),
+        Err(fault) => fault.tool_end(),
     };
     ExitCode::from(end.status())
 }
