@@ -29,6 +29,8 @@ TOP = pathlib.Path(__file__).resolve().parent.parent
 PARTS = ("src", "specs", "proofs")
 MEMORY_OF_A_JOB = 2 * 2**30
 MOST_JOBS = 4
+# a crate with fewer lines of code takes longer by several jobs, of which each reads the libraries below
+LINES_FOR_JOBS = 300
 PR_SET_PDEATHSIG = 1
 
 
@@ -68,6 +70,12 @@ def closure(names, crates):
 def files_of(folder):
     """The files that the check of a crate reads."""
     return sorted(it for part in PARTS for it in (folder / part).rglob("*") if it.is_file())
+
+
+def most_jobs(name):
+    """How many jobs may check a crate."""
+    lines = sum(file.read_bytes().count(b"\n") for file in (TOP / "crates" / name / "src").rglob("*.rt"))
+    return MOST_JOBS if lines >= LINES_FOR_JOBS else 1
 
 
 def sum_of(names, crates, top=TOP):
@@ -249,9 +257,10 @@ class Builder:
         for at, name in enumerate(ready):
             if idle <= 0:
                 return
-            jobs = max(1, min(MOST_JOBS, idle // (len(ready) - at)))
+            jobs = max(1, idle // (len(ready) - at))
             if self.chain[name] * lanes > 2 * work:
                 jobs = max(jobs, min(2, idle))
+            jobs = min(jobs, most_jobs(name))
             lane = self.lane()
             left.remove(name)
             idle -= jobs

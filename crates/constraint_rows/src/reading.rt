@@ -9,8 +9,7 @@ ghost use Rattle.constraint_rows.specs.Reading.{RowReads, is_minus, is_unit, row
 
 use crate::ops::PlainOp;
 use op_matrix::{Entry, Op};
-use tensor_action::sign_of;
-use tensor_rank::Flags;
+use tensor_rank::{Flags, sign_of};
 
 /// Where a row of a signed permutation matrix has its entry, and whether it is -1.
 #[derive(Clone, Copy)]

@@ -1,4 +1,3 @@
-pub mod DeterminantLaws
 pub mod FactorLaws
 mod Between
 pub mod IndexPlaces

@@ -8,11 +8,10 @@ ghost use Rattle.tensor_action.specs.Acting.{ActGrows, AddsPart, CarriesTo, IsCa
 use crate::faults::ActFault;
 use crate::parts::Parts;
 use crate::products::zero;
-use crate::signs::sign_of;
 use op_matrix::Op;
 use root3_num::{Root3, TooLarge};
 use std::alloc::Global;
-use tensor_rank::{Comp, Flags, Rank};
+use tensor_rank::{Comp, Flags, Rank, sign_of};
 
 /// The sum with the product of a factor and a number.
 fn with_product(sum: &Root3, factor: &Root3, number: &Root3) -> Result<Root3, TooLarge>

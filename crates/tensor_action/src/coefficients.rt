@@ -9,10 +9,9 @@ ghost use Rattle.tensor_rank.specs.IndexLaws.{nth};
 ghost use Rattle.tensor_action.specs.Factors.{entry_number, product_number};
 
 use crate::products::{Product, number_of, one, with_entry};
-use crate::signs::sign_of;
 use op_matrix::{Entry, Op};
 use root3_num::Root3;
-use tensor_rank::{Comp, Flags, Rank};
+use tensor_rank::{Comp, Flags, Rank, sign_of};
 
 /// The entry at the indices that two components have at a place.
 fn entry_between<R: Rank>(op: &Op, to: Comp<R>, from: Comp<R>, place: usize) -> Entry

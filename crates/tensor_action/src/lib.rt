@@ -7,7 +7,6 @@ mod coefficients;
 mod faults;
 mod parts;
 mod products;
-mod signs;
 #[cfg(test)]
 mod tests;
 mod turns;
@@ -16,5 +15,4 @@ pub use action::act;
 pub use coefficients::coefficient;
 pub use faults::ActFault;
 pub use parts::{Part, Parts};
-pub use signs::sign_of;
 pub use turns::products_act_in_turn;

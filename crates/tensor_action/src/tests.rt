@@ -8,7 +8,7 @@ use root3_num::Root3;
 use std::alloc::Global;
 use std::process::Abort;
 use std::test::Fail;
-use tensor_rank::{Comp, Flags, R1, R2, Rank, Sign};
+use tensor_rank::{Comp, Flags, R1, R2, Rank, Sign, sign_of};
 
 const POLAR: Flags = Flags {
     axial: false,

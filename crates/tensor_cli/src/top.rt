@@ -8,7 +8,8 @@ ghost use Rattle.run_words.specs.Words.{IsAccepted};
 ghost use Rattle.generated_runs.specs.Told.{Becomes};
 ghost use Rattle.worded_runs.specs.Asked.{AreRefused, IsUnstarted, IsWhole, LeavesAsked};
 
-use line_answers::{Answers, Teller};
+use crate::answers::Answers;
+use crate::told::Teller;
 use line_runs::Outcome;
 use std::alloc::Global;
 use tensor_ports::{Sink, Source};

@@ -9,6 +9,7 @@ mod laws;
 mod orders;
 mod ranks;
 mod shapes;
+mod signs;
 mod symbols;
 
 pub use components::{Comp, POWERS};
@@ -19,6 +20,7 @@ pub use orders::Order;
 pub use ranks::{R0, R1, R2, R3, R4, R5, R6, Rank};
 pub use shapes::Shape;
 pub use sign_moves::NoMemory;
+pub use signs::sign_of;
 pub use symbols::{AnyShape, compile};
 pub use tensor_defs::Sign;
 

@@ -1,7 +1,0 @@
-use Rattle.std.proofs.Common.{◌≤◌, take}
-use Rattle.tensor_defs.specs.Prelude.{rank, Each}
-use Rattle.line_answers.specs.Kinds.{IsTold}
-use Rattle.line_answers.proofs.tensors.list_in_rank.Given as goal
-
-abbrev pub invariant-loop-place : goal.invariant-loop-place
-invariant-loop-place l = IsTold l.line l.list (λ js. Each (λ j. rank j.jahn ≤ 6) (take l.place js))
