@@ -12,8 +12,8 @@ use op_matrix::Op;
 use root3_num::Root3;
 use sign_moves::times;
 use std::alloc::Global;
-use tensor_action::{ActFault, sign_of};
-use tensor_rank::{Comp, Flags, Rank, Sign};
+use tensor_action::ActFault;
+use tensor_rank::{Comp, Flags, Rank, Sign, sign_of};
 
 /// The first component at which a list of all components isn't the given one with a sign; none where it is.
 fn first_apart<R: Rank>(carried: &[Root3], t: &[Root3], sign: Sign) -> Option<Comp<R>>

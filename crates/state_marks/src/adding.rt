@@ -21,8 +21,8 @@ use exact_frac::Frac;
 use op_matrix::Op;
 use reduced_form::{Form, Term};
 use root3_num::{Root3, TooLarge};
-use tensor_action::{Part, Parts, sign_of};
-use tensor_rank::{Comp, Flags, Rank, Sign};
+use tensor_action::{Part, Parts};
+use tensor_rank::{Comp, Flags, Rank, Sign, sign_of};
 
 /// Whether a fraction is 1.
 fn is_one(number: &Frac) -> bool

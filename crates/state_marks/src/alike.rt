@@ -7,8 +7,7 @@ ghost use Rattle.state_marks.specs.Alike.{AreAlike, sign_power};
 
 use op_matrix::Op;
 use sign_moves::times;
-use tensor_action::sign_of;
-use tensor_rank::{Flags, Rank, Sign};
+use tensor_rank::{Flags, Rank, Sign, sign_of};
 
 /// The sign with which the matrix of one operation is that of another, if there is one: in the order of operations the
 /// matrix at a place from the start is the negative of that at the place from the end.
