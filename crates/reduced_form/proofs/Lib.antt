@@ -6,3 +6,4 @@ pub mod Numbering
 pub mod FreeLaws
 pub mod FormLaws
 pub mod TextLaws
+mod NameLaws

@@ -3,13 +3,12 @@
 --   has_found, has_absent    whether a component is among the free ones
 --   IsMarkedUpTo, marks_start, marks_more, marks_done    marks of the free components
 --   sum_whole, named_term, sum_grown, sum_done, unit_text, minus_first    sums
---   name_grown, name_longer, name_done    names
+--   name_grown, name_done    names
 --   terms_named, free_line, sum_line, zero_line    lines
 --   grown_twice, lines_start, lines_grown    lists that have grown
 use Rattle.list_laws.proofs.Kit.{◌≡◌, ℕ, zero, suc, ◌+◌, ◌*◌, ◌^◌, ◌<◌, ◌≤◌, Bool, true, false, List, [], ◌∷◌, ◌++◌, map, length, get_or, inl, inr, refl, ap}
 use Rattle.list_laws.proofs.Kit.{sym, ◌∙◌, arith, subst, flat_map, pow-suc, flat_map-append, get_or-set_at, length-map, length-set, get_or-set_other}
 use Rattle.list_laws.proofs.Kit.{take_all, cases_Bool, cases_eq, cases_lt, false_from_ne_true}
-use Rattle.std.proofs.Common.{length-append}
 use Rattle.std.specs.Prelude.{codes, slice_set, take}
 use Rattle.std.proofs.lemmas.List.{append_assoc, append-nil}
 use Rattle.tensor_defs.specs.declared.Sign.{Sign}
@@ -212,9 +211,6 @@ name_grown is p d old new l e was grown =
     let next : suc p ≡ p + 1 = omega arith in
     grown ∙ (λ i. was i ++ (48 + e i) ∷ []) ∙ ap (λ x. 84 ∷ x) (sym (digits_more is p l))
     ∙ ap (λ k. 84 ∷ digits_text (map digit (take k is))) next
-
-pub name_longer : (old new : List ℕ) (x n : ℕ) → length old ≡ n → new ≡ old ++ x ∷ [] → length new ≡ n + 1
-name_longer old new x n h e = ap length e ∙ length-append old (x ∷ []) ∙ ap (λ k. k + 1) h
 
 pub name_done : (is : Index) (p : ℕ) → length is ≤ p → 84 ∷ digits_text (map digit (take p is)) ≡ component_name is
 name_done is p end = ap (λ xs. 84 ∷ digits_text (map digit xs)) (take_all p is end)

@@ -1,8 +1,8 @@
 //! The component lines of a table.
 ghost use Rattle.std.specs.Prelude.{◌≡◌, ◌+◌, ◌++◌, ◌<◌, ◌≤◌, ℕ, List, length, map, take, codes, IfOk, IfSome, OnOk, OnErr, IsTrue, vec_len, vec_capacity};
 ghost use Rattle.tensor_defs.specs.Lists.{Each};
-ghost use Rattle.tensor_defs.specs.Tensor.{index_of};
-ghost use Rattle.text_defs.specs.AnswerTexts.{component_line, component_name, rational, table_text};
+ghost use Rattle.tensor_defs.specs.Tensor.{digit, index_of};
+ghost use Rattle.text_defs.specs.AnswerTexts.{digits_text, component_line, component_name, rational, table_text};
 ghost use Rattle.text_defs.specs.NumberTexts.{factor_text, is_negative, is_one, sum_text, term_text, without_sign};
 ghost use Rattle.smallvec.specs.SmallVec.{HasRoomFor, small_vec_len};
 ghost use Rattle.reduced_form.specs.Forms.{form_table, free_at, unit_fraction};
@@ -27,13 +27,32 @@ pub fn append_to(out: &mut Vec<u8>, bytes: &[u8]) -> Result<(), NoMemory>
     }
 }
 
+/// The index digits of the components of rank 3, in index order.
+#[rattlefmt::skip]
+const TRIPLES: [[u8; 3]; 27] = [
+    *b"111", *b"112", *b"113", *b"121", *b"122", *b"123", *b"131", *b"132", *b"133",
+    *b"211", *b"212", *b"213", *b"221", *b"222", *b"223", *b"231", *b"232", *b"233",
+    *b"311", *b"312", *b"313", *b"321", *b"322", *b"323", *b"331", *b"332", *b"333",
+];
+
+/// The index digits of the component of rank 6 of a number.
+fn six_digits(number: usize) -> [u8; 6]
+    requires { number < 729 }
+    ensures { result ≡ digits_text (map digit (index_of 6 number)) }
+{
+    let front = TRIPLES[number / 27];
+    let back = TRIPLES[number % 27];
+    [front[0], front[1], front[2], back[0], back[1], back[2]]
+}
+
 /// The name of a component, T and its index digits, and behind it what the rank leaves over.
 pub fn name_bytes<R: Rank>(c: Comp<R>) -> [u8; 7]
     ensures { take (R.R + 1) result ≡ component_name (index_of R.R c) }
 {
+    let digits = six_digits(c.number() as usize);
     let mut name = [b'T'; 7];
     for place in 0..R::R {
-        name[place + 1] = 48 + c.digit(place);
+        name[place + 1] = digits[6 - R::R + place];
     }
     name
 }

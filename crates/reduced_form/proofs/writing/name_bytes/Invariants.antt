@@ -7,5 +7,5 @@ use Rattle.reduced_form.proofs.writing.name_bytes.Given as goal
 abbrev pub invariant-loop-place : goal.invariant-loop-place
 invariant-loop-place g l = record {
   len : length l.name ≡ 7;
-  bytes : take (l.place + 1) l.name ≡ 84 ∷ digits_text (map digit (take l.place (index_of g.R.Rank.R l.c)));
+  bytes : take (l.place + 1) l.name ≡ 84 ∷ digits_text (map digit (take l.place (index_of g.R.Rank.R l.fn.c)));
 }
