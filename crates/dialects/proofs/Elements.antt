@@ -23,8 +23,8 @@ use Rattle.op_matrix.proofs.Frames.{also, three_told}
 use Rattle.op_matrix.proofs.Products.{product_code, frame_code, common, product_at}
 use Rattle.op_matrix.proofs.Hexagonal.{implies, identity_at}
 use Rattle.magnetic_groups.specs.Sets.{HaveFrame}
-use Rattle.magnetic_groups.proofs.Reaching.{spanned_one}
-use Rattle.magnetic_groups.proofs.Spans.{span_product, span_member}
+use Rattle.group_closing.proofs.Reaching.{spanned_one}
+use Rattle.group_closing.proofs.Spans.{span_product, span_member}
 use Rattle.magnetic_groups.proofs.SymbolFrames.{generators_framed}
 use Rattle.dialects.specs.LongTexts.{form_at, Piece, HasPrimed, IsOperation}
 use Rattle.dialects.specs.Laws.{LongOperatorsAreElements}

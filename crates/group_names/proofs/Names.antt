@@ -10,8 +10,8 @@ use Rattle.tensor_laws.proofs.Products.{generated_within}
 use Rattle.op_matrix.specs.Table.{nth_operation, operation_at}
 use Rattle.op_matrix.proofs.Facts.{nth_at}
 use Rattle.magnetic_groups.specs.Sets.{HasForm, In, IsGroup}
-use Rattle.magnetic_groups.proofs.Members.{member_framed}
-use Rattle.magnetic_groups.proofs.Spans.{span_member}
+use Rattle.group_closing.proofs.Spans.{member_framed}
+use Rattle.group_closing.proofs.Spans.{span_member}
 use Rattle.magnetic_groups.proofs.SymbolFrames.{generators_framed, grey_tail}
 use Rattle.group_names.specs.LookUps.{IsFirstNamed, HoldsAll, SameForms}
 use Rattle.group_names.proofs.Matrices.{At, framed_at, both_marks, any_mark}

@@ -1,5 +1,7 @@
 -- What is read off a group: places and frames.
-use Rattle.list_laws.proofs.Kit.{◌≡◌, ℕ, ◌<◌, ◌≤◌, Bool, true, false, List, length, ap, sym, ◌∙◌, subst, inl, inr, Contains-get_or, slice_get-get_or}
+--   kept_length, found_at, framed_told, rest_hexagonal    lengths, places and frames
+--   outside_at, inside_more, inside_all    the least place outside
+use Rattle.list_laws.proofs.Kit.{◌≡◌, ℕ, ◌+◌, ◌<◌, ◌≤◌, ◌⊎◌, Bool, true, false, List, length, ap, sym, ◌∙◌, arith, subst, inl, inr, cases_lt, get_or_default, Contains-get_or, slice_get-get_or}
 use Rattle.list_laws.proofs.Kit.{eqb-true, false≢true}
 use Rattle.std.specs.Prelude.{slice_index_or, slice_get, Option, Some, Contains, ◌↔◌, IsTrue, nat_eq}
 use Rattle.tensor_defs.specs.declared.OpKind.TheVariants.{Three}
@@ -7,12 +9,9 @@ use Rattle.tensor_defs.specs.declared.Direction.TheVariants.{Z}
 use Rattle.tensor_defs.specs.Prelude.{operation_of, Operation, IsPlain, IsHexagonal, AllOf, IsThe, IsFramed}
 use Rattle.op_matrix.specs.Prelude.{place, HasFrame}
 use Rattle.op_matrix.proofs.Order.{same_place}
-use Rattle.magnetic_groups.specs.Sets.{In, HaveFrame, IsKept}
-use Rattle.magnetic_groups.proofs.Marked.{marked_length}
-
-pub member_framed : (items : List Operation) (g : Operation) → HaveFrame items → Contains items g → HasFrame g
-member_framed items g (inl f) c = inl (f g c)
-member_framed items g (inr f) c = inr (f g c)
+use Rattle.magnetic_groups.specs.Sets.{In, HaveFrame, IsKept, IsFirstOutside, IsWithin}
+use Rattle.group_closing.proofs.Spans.{member_framed}
+use Rattle.group_closing.proofs.Marked.{marked_length}
 
 pub kept_length : (gens items : List Operation) (m : List Bool) → IsKept gens items m → length items ≤ 128
 kept_length gens items m i = subst (λ xs. length xs ≤ 128) (sym i.listed) (marked_length 128 m)
@@ -61,3 +60,28 @@ rest_hexagonal items view n g b f e h at t q = subst (λ xs. AllOf (In xs) IsHex
     by : HaveFrame items → AllOf (In items) IsHexagonal
     by (inl p) = absurd (false≢true (sym q ∙ t.1 (p g (subst (Contains items) (sym at) (Contains-get_or items n g h)))))
     by (inr p) = p
+
+-- ---- the least place outside
+pub outside_at : (xs ys zs : List Operation) (n : ℕ) (g : Operation) (b : Bool) → xs ≡ zs → n < length xs →
+    g ≡ slice_index_or xs n g → ((IsTrue b → Contains ys g) × (Contains ys g → IsTrue b)) → b ≡ false →
+    ((j : ℕ) (d : Operation) → j < n → Contains ys (slice_index_or xs j d)) → IsFirstOutside zs ys n
+outside_at xs ys zs n g b e h at t f m = subst (λ x. IsFirstOutside x ys n) e (record {
+  below = h;
+  outside = λ d c. false≢true (sym f ∙ t.1 (subst (Contains ys) (get_or_default xs n d g h ∙ sym at) c));
+  earlier = m;
+})
+
+pub inside_more : (xs ys : List Operation) (n : ℕ) (g : Operation) → n < length xs → g ≡ slice_index_or xs n g →
+    Contains ys g → ((j : ℕ) (d : Operation) → j < n → Contains ys (slice_index_or xs j d)) → (j : ℕ) (d : Operation) →
+    j < n + 1 → Contains ys (slice_index_or xs j d)
+inside_more xs ys n g h at c m j d l = by (cases_lt j n)
+  where
+    by : (j < n) ⊎ (n ≤ j) → Contains ys (slice_index_or xs j d)
+    by (inl a) = m j d a
+    by (inr a) = let e : j ≡ n = omega arith in subst (Contains ys)
+        (at ∙ get_or_default xs n g d h ∙ ap (λ x. slice_index_or xs x d) (sym e)) c
+
+pub inside_all : (xs ys zs : List Operation) (n : ℕ) → xs ≡ zs → length xs ≤ n →
+    ((j : ℕ) (d : Operation) → j < n → Contains ys (slice_index_or xs j d)) → IsWithin zs ys
+inside_all xs ys zs n e h m = subst (λ x. IsWithin x ys) e (λ g c. let l =
+    c.1 in subst (Contains ys) c.2 (m c.0 g (omega arith)))

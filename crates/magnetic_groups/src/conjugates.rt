@@ -5,8 +5,8 @@ ghost use Rattle.tensor_defs.specs.OperationOrder.{comes_before};
 ghost use Rattle.tensor_defs.specs.States.{InPairGroup};
 ghost use Rattle.magnetic_groups.specs.Sets.{FitsFrame, In};
 
-use crate::marks::Marks;
 use crate::{Group, GroupMarks, NoMemory};
+use group_closing::Marks;
 use op_matrix::Op;
 use std::alloc::Global;
 

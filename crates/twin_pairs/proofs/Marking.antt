@@ -10,7 +10,7 @@ use Rattle.std.proofs.Common.{nat_cmp}
 use Rattle.tensor_defs.specs.Prelude.{Operation, IsProduct, AreStates, InDouble, IsState, Times}
 use Rattle.tensor_laws.proofs.Prelude.{product_unique, one_state}
 use Rattle.magnetic_groups.specs.Prelude.{mark_at, In, IsGroup, IsWithin}
-use Rattle.magnetic_groups.proofs.Reaching.{no_mark, set_kept, set_new, set_told}
+use Rattle.group_closing.proofs.Reaching.{no_mark, set_kept, set_new, set_told}
 use Rattle.coset_states.specs.Numbering.{Cosets, TellsState}
 use Rattle.twin_pairs.specs.Classes.{AreMarked, IsLast}
 use Rattle.twin_pairs.proofs.DoubleCosets.{double_from, double_told}

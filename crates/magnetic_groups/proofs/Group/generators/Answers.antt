@@ -1,5 +1,5 @@
 use Rattle.std.proofs.Common.{◌∙◌}
-use Rattle.magnetic_groups.proofs.Taking.{all_meant, generators_told, held_meant}
+use Rattle.magnetic_groups.proofs.Held.{all_meant, generators_told, held_meant}
 use Rattle.magnetic_groups.proofs.Group.generators.Goals as goal
 
 pub returns-then-is_empty : goal.returns-then-is_empty

@@ -1,59 +1,33 @@
-use Rattle.std.proofs.Common.{◌≡◌, ◌≤◌, ◌∙◌, ◌++◌, ◌∷◌, [], arith, length, subst, sym}
-use Rattle.magnetic_groups.specs.Joining.{HoldsGroup}
-use Rattle.magnetic_groups.specs.Sets.{FitsFrame, generators_of, HaveFrame, IsKept}
-use Rattle.magnetic_groups.proofs.Members.{kept_length}
-use Rattle.magnetic_groups.proofs.Spans.{closed_kept, fits_frame, joined_frame, joined_told, kept_listing}
-use Rattle.magnetic_groups.proofs.Taking.{kept_by, kept_all}
-use Rattle.magnetic_groups.proofs.CosetClosing.{joined_group}
+use Rattle.std.proofs.Common.{◌∙◌, subst, sym}
+use Rattle.group_closing.specs.Joining.{HoldsGroup}
+use Rattle.magnetic_groups.specs.Sets.{IsKept}
+use Rattle.magnetic_groups.proofs.Held.{kept_all}
+use Rattle.magnetic_groups.proofs.Listings.{joined_parts, joined_told, kept_listing}
 use Rattle.magnetic_groups.proofs.closing.close_joined.Goals as goal
 
-pub of-found-requires : goal.of-found-requires
-of-found-requires c =
-    subst (λ xs. length xs ≤ 128) (sym c.deref.ensures.value)
-    (kept_length (generators_of c.group.inside.generators.items c.group.inside.elements.items) c.group.inside.elements.items c.group.inside.marks c.group.invariant)
+pub join_marks-marks-requires-clause-frame : goal.join_marks-marks-requires-clause-frame
+join_marks-marks-requires-clause-frame c =
+    (joined_parts c.group.inside.generators.items c.generators.result.now c.deref.result.now c.group.inside.elements.items c.args.group.now c.group.inside.marks c.args.op.now
+    c.group.invariant c.group.view_is c.generators.ensures.elements c.generators.ensures.spanned (c.deref.ensures.value ∙ c.in_ok-generators.ensures) c.requires).1
 
-pub join-requires-clause-frame : goal.join-requires-clause-frame
-join-requires-clause-frame c =
-    let items = c.group.inside.elements.items in
-    let k : IsKept c.generators.result.now items c.group.inside.marks =
-    kept_by (generators_of c.group.inside.generators.items items) c.generators.result.now items c.args.group.now c.group.inside.marks c.group.invariant c.group.view_is c.generators.ensures.elements c.generators.ensures.spanned in
-    let f : c.deref-2.result.now ≡ c.generators.result.now ++ c.args.op.now ∷ [] = c.deref-2.ensures.value ∙ c.in_ok-generators.ensures in
-    subst HaveFrame (sym f) (joined_frame c.generators.result.now items c.group.inside.marks c.args.op.now k
-    (fits_frame items c.args.op.now (subst (λ xs. FitsFrame xs c.args.op.now) (sym c.group.view_is) c.requires)))
-
-pub join-requires-clause-group : goal.join-requires-clause-group
-join-requires-clause-group c =
-    let items = c.group.inside.elements.items in
-    let k : IsKept c.generators.result.now items c.group.inside.marks =
-    kept_by (generators_of c.group.inside.generators.items items) c.generators.result.now items c.args.group.now c.group.inside.marks c.group.invariant c.group.view_is c.generators.ensures.elements c.generators.ensures.spanned in
-    let f : c.deref-2.result.now ≡ c.generators.result.now ++ c.args.op.now ∷ [] = c.deref-2.ensures.value ∙ c.in_ok-generators.ensures in
-    subst (λ m. HoldsGroup c.deref-2.result.now m c.of-found.result) (sym c.copied-marks.ensures)
-    (subst (HoldsGroup c.deref-2.result.now c.group.inside.marks) (sym (c.of-found.ensures ∙ c.deref.ensures.value))
-    (joined_group c.generators.result.now c.deref-2.result.now items c.group.inside.marks c.args.op.now k f))
+pub join_marks-marks-requires-clause-group : goal.join_marks-marks-requires-clause-group
+join_marks-marks-requires-clause-group c =
+    subst (λ m. HoldsGroup c.deref.result.now m c.deref-2.result.now) (sym c.copied.ensures)
+    (subst (HoldsGroup c.deref.result.now c.group.inside.marks) (sym c.deref-2.ensures.value)
+    (joined_parts c.group.inside.generators.items c.generators.result.now c.deref.result.now c.group.inside.elements.items c.args.group.now c.group.inside.marks c.args.op.now
+    c.group.invariant c.group.view_is c.generators.ensures.elements c.generators.ensures.spanned (c.deref.ensures.value ∙ c.in_ok-generators.ensures) c.requires).2)
 
 pub invariant_of-result : goal.invariant_of-result
 invariant_of-result c =
-    let items = c.group.inside.elements.items in
-    let k : IsKept c.generators.result.now items c.group.inside.marks =
-    kept_by (generators_of c.group.inside.generators.items items) c.generators.result.now items c.args.group.now c.group.inside.marks c.group.invariant c.group.view_is c.generators.ensures.elements c.generators.ensures.spanned in
-    let f : c.deref-2.result.now ≡ c.generators.result.now ++ c.args.op.now ∷ [] = c.deref-2.ensures.value ∙ c.in_ok-generators.ensures in
-    let fr : HaveFrame c.deref-2.result.now = subst HaveFrame (sym f) (joined_frame c.generators.result.now items c.group.inside.marks c.args.op.now k
-    (fits_frame items c.args.op.now (subst (λ xs. FitsFrame xs c.args.op.now) (sym c.group.view_is) c.requires))) in
-    kept_all c.in_ok-generators.generators.items c.in_ok-elements.elements.items c.join.new.marks
-    (subst (λ gs. IsKept gs c.in_ok-elements.elements.items c.join.new.marks) c.deref-2.ensures.value
-    (closed_kept c.deref-2.result.now c.in_ok-elements.elements.items c.join.new.found (length c.join.new.found) c.join.new.marks
-    fr c.join.ensures.closed (omega arith) c.in_ok-elements.ensures.listed))
+    kept_all c.in_ok-generators.generators.items c.in_ok-elements.elements.items c.join_marks-marks.result
+    (subst (λ gs. IsKept gs c.in_ok-elements.elements.items c.join_marks-marks.result) c.deref.ensures.value
+    (subst (λ xs. IsKept c.deref.result.now xs c.join_marks-marks.result) (sym c.in_ok-elements.ensures.listed) c.join_marks-marks.ensures))
 
 pub returns : goal.returns
 returns c =
-    let items = c.group.inside.elements.items in
-    let k : IsKept c.generators.result.now items c.group.inside.marks =
-    kept_by (generators_of c.group.inside.generators.items items) c.generators.result.now items c.args.group.now c.group.inside.marks c.group.invariant c.group.view_is c.generators.ensures.elements c.generators.ensures.spanned in
-    let f : c.deref-2.result.now ≡ c.generators.result.now ++ c.args.op.now ∷ [] = c.deref-2.ensures.value ∙ c.in_ok-generators.ensures in
-    let fr : HaveFrame c.deref-2.result.now = subst HaveFrame (sym f) (joined_frame c.generators.result.now items c.group.inside.marks c.args.op.now k
-    (fits_frame items c.args.op.now (subst (λ xs. FitsFrame xs c.args.op.now) (sym c.group.view_is) c.requires))) in
-    joined_told c.generators.result.now items c.args.group.now c.deref-2.result.now c.group.inside.marks
-    c.args.op.now k c.group.view_is f c.requires c.in_ok-elements.elements.items
-    (kept_listing c.deref-2.result.now c.in_ok-elements.elements.items c.join.new.marks
-    (closed_kept c.deref-2.result.now c.in_ok-elements.elements.items c.join.new.found (length c.join.new.found) c.join.new.marks
-    fr c.join.ensures.closed (omega arith) c.in_ok-elements.ensures.listed))
+    joined_told c.generators.result.now c.group.inside.elements.items c.args.group.now c.deref.result.now c.group.inside.marks c.args.op.now
+    (joined_parts c.group.inside.generators.items c.generators.result.now c.deref.result.now c.group.inside.elements.items c.args.group.now c.group.inside.marks c.args.op.now
+    c.group.invariant c.group.view_is c.generators.ensures.elements c.generators.ensures.spanned (c.deref.ensures.value ∙ c.in_ok-generators.ensures) c.requires).0
+    c.group.view_is (c.deref.ensures.value ∙ c.in_ok-generators.ensures) c.requires c.in_ok-elements.elements.items
+    (kept_listing c.deref.result.now c.in_ok-elements.elements.items c.join_marks-marks.result
+    (subst (λ xs. IsKept c.deref.result.now xs c.join_marks-marks.result) (sym c.in_ok-elements.ensures.listed) c.join_marks-marks.ensures))

@@ -1,6 +1,6 @@
 use Rattle.std.proofs.Common.{subst, sym}
 use Rattle.magnetic_groups.specs.Sets.{IsKept, generators_of}
-use Rattle.magnetic_groups.proofs.Taking.{kept_marked}
+use Rattle.magnetic_groups.proofs.Held.{kept_marked}
 use Rattle.magnetic_groups.proofs.closing.of_marks.Goals as goal
 
 pub invariant_of-result : goal.invariant_of-result
