@@ -2,7 +2,6 @@
 ghost use Rattle.std.specs.Prelude.{◌≡◌, ◌+◌, ◌≤◌, length, Contains, ◌++◌, ◌∷◌, []};
 ghost use Rattle.tensor_defs.specs.Operation.{Operation};
 ghost use Rattle.group_closing.specs.Marks.{marked_below, Added, Grows, IsClosed, IsClosing, IsDone, Reached, unmarked};
-ghost use Rattle.group_closing.specs.Joining.{HoldsGroup};
 ghost use Rattle.group_closing.specs.Sets.{HaveFrame, IsKept, Spanned};
 
 use crate::found::Found;
@@ -59,20 +58,29 @@ pub fn close_marks(generators: &[Op]) -> Marks
 {
     let mut marks = Marks::none();
     let mut found = Found::none();
+    let mut firsts = Found::none();
     add(Op::identity(), &mut marks, &mut found);
     for place in 0..generators.len() {
-        join(&generators[..place + 1], &mut marks, &mut found);
+        let more = &generators[place];
+        join(
+            &generators[..place],
+            more,
+            &mut firsts,
+            &mut marks,
+            &mut found,
+        );
     }
     marks
 }
 
-/// The marks of all products of the generators, where the elements and their marks are a group of such products already.
-pub fn join_marks(generators: &[Op], elements: &[Op], mut marks: Marks) -> Marks
-    requires frame { HaveFrame generators.now }
-    requires group { HoldsGroup generators.now marks elements.now }
-    ensures { IsKept generators.now (marked_below 128 result) result }
+/// The marks of all products of the generators of a group, whose elements and marks are given, and one more.
+pub fn join_marks(generators: &[Op], more: &Op, elements: &[Op], mut marks: Marks) -> Marks
+    requires frame { HaveFrame (generators.now ++ more.now ∷ []) }
+    requires group { IsKept generators.now elements.now marks }
+    ensures { IsKept (generators.now ++ more.now ∷ []) (marked_below 128 result) result }
 {
     let mut found = Found::of(elements);
-    join(generators, &mut marks, &mut found);
+    let mut firsts = Found::none();
+    join(generators, more, &mut firsts, &mut marks, &mut found);
     marks
 }

@@ -46,6 +46,13 @@ impl Found {
         found
     }
 
+    /// Takes all operations away.
+    pub fn clear(&mut self)
+        ensures { self.new ≡ [] }
+    {
+        self.len = 0;
+    }
+
     /// Puts an operation at the end.
     pub fn push(&mut self, operation: Op)
         requires { length self.old < 128 }

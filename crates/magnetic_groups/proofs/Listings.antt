@@ -4,15 +4,13 @@
 --   accepted    a symbol whose group is without time reversal alone
 use Rattle.list_laws.proofs.Kit.{◌≡◌, Bool, true, false, List, [], ◌∷◌, ◌++◌, sym, ◌∙◌, subst, ◌⊎◌, inl, inr, ap}
 use Rattle.list_laws.proofs.Kit.{Contains-append_left, Contains-push, Contains-push_cases, false≢true}
-use Rattle.std.specs.Prelude.{Contains, ◌↔◌, IsTrue}
+use Rattle.std.specs.Prelude.{Contains, ◌↔◌, IsTrue, Option}
 use Rattle.list_laws.proofs.Lists.{none_held}
 use Rattle.tensor_defs.specs.Prelude.{Operation, IsProduct, identity, IsListing, comes_before, Generated, IsPlain, IsHexagonal}
 use Rattle.tensor_laws.proofs.Prelude.{generated_within}
 use Rattle.magnetic_groups.specs.Prelude.{HaveFrame, FitsFrame, Spanned, IsKept}
 use Rattle.magnetic_groups.specs.Sets.{generators_of}
 use Rattle.magnetic_groups.proofs.Held.{kept_by}
-use Rattle.group_closing.specs.Joining.{HoldsGroup}
-use Rattle.group_closing.proofs.CosetClosing.{joined_group}
 use Rattle.group_closing.proofs.Reaching.{spanned_times, spanned_one, spanned_framed}
 use Rattle.group_closing.proofs.Spans.{common_product, each_map, span_product}
 
@@ -110,11 +108,8 @@ pub accepted : (xs gens : List Operation) (g r : Operation) (b : Bool) → IsLis
     g ≡ r → (IsTrue b ↔ Contains xs g) → b ≡ false → ¬ Spanned gens r
 accepted xs gens g r b l e t f s = false≢true (sym f ∙ t.1 (subst (Contains xs) (sym e) ((l.members r).1 s)))
 
--- a group and one operation more: the generators, and what the closing starts from
-pub joined_parts : (held gens all items view : List Operation) (m : List Bool) (op : Operation) → IsKept (generators_of held items) items m → items ≡ view → ((g : Operation) → Contains gens g → Contains view g) → ((k : Operation) → Contains view k ↔ Spanned gens k) → all ≡ gens ++ op ∷ [] → FitsFrame view op → IsKept gens items m × HaveFrame all × HoldsGroup all m items
-joined_parts held gens all items view m op i e w s f fits =
-    let k : IsKept gens items m = kept_by (generators_of held items) gens items view m i e w s in (
-      k,
-      subst HaveFrame (sym f) (joined_frame gens items m op k (fits_frame items op (subst (λ xs. FitsFrame xs op) (sym e) fits))),
-      joined_group gens all items m op k f,
-    )
+-- a group and one operation more: its generators, and the frame of all
+pub joined_parts : (held : Option (List Operation)) (gens items view : List Operation) (m : List Bool) (op : Operation) → IsKept (generators_of held items) items m → items ≡ view → ((g : Operation) → Contains gens g → Contains view g) → ((k : Operation) → Contains view k ↔ Spanned gens k) → FitsFrame view op → IsKept gens items m × HaveFrame (gens ++ op ∷ [])
+joined_parts held gens items view m op i e w s fits =
+    let k : IsKept gens items m = kept_by (generators_of held items) gens items view m i e w s in
+    (k, joined_frame gens items m op k (fits_frame items op (subst (λ xs. FitsFrame xs op) (sym e) fits)))

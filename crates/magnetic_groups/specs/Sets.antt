@@ -5,7 +5,7 @@
 --   TellsOutside   the least place of a member that isn't in the other list, or that there is none
 --   TellsPlace     the place of a member, or that it is none
 -- Source: the definition of a group.
-use Rattle.std.specs.Prelude.{◌≡◌, ℕ, ◌<◌, slice_index_or, slice_get, Option, Some, MatchOption, Bool, List, [], ◌∷◌, length, Contains, ◌⊎◌}
+use Rattle.std.specs.Prelude.{◌≡◌, ℕ, ◌<◌, slice_index_or, slice_get, Option, Some, None, MatchOption, Bool, List, [], ◌∷◌, length, Contains, ◌⊎◌}
 use Rattle.tensor_defs.specs.Prelude.{Operation, IsBelow, IsPlain, IsHexagonal, AllOf}
 use Rattle.op_matrix.specs.Table.{operation_at}
 pub use Rattle.group_closing.specs.Sets.{HaveFrame, In, InverseIn, IsGroup, IsKept, Spanned}
@@ -16,9 +16,9 @@ FitsFrame xs g = (IsPlain g × AllOf (In xs) IsPlain) ⊎ (IsHexagonal g × AllO
 abbrev pub HasForm : (Operation → Type 0) → ℕ → Type 0
 HasForm G c = (b : Bool) × G (operation_at c b)
 
-abbrev pub generators_of : List Operation → List Operation → List Operation
-generators_of [] items = items
-generators_of (g ∷ gs) items = g ∷ gs
+abbrev pub generators_of : Option (List Operation) → List Operation → List Operation
+generators_of (Some gens) items = gens
+generators_of None items = items
 
 -- k is the least place of a member of xs that isn't in ys
 pub record IsFirstOutside (xs ys : List Operation) (k : ℕ) : Type 0 where

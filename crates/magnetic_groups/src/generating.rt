@@ -15,12 +15,12 @@ impl Group {
         ensures elements { AllOf (In result.now) (In self.now) }
         ensures spanned { (k : Operation) → Contains self.now k ↔ Spanned result.now k }
     {
-        let held: &[Op] = &self.generators;
-        if held.is_empty() {
-            return &self.elements;
+        match &self.generators {
+            Some(generators) => generators.as_slice(),
+            None => &self.elements,
         }
-        held
     }
+
     /// The elements, in their order, each of which isn't a product of those taken before it.
     pub fn greedy(&self) -> Greedy
         ensures taken { IsGreedy self.now result }

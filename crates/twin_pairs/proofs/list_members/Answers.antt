@@ -5,7 +5,7 @@ use Rattle.twin_pairs.proofs.Listings.{listed_one, listed_push, listed_skip, lis
 use Rattle.twin_pairs.proofs.list_members.Goals as goal
 
 pub loop-place-init : goal.loop-place-init
-loop-place-init c = λ i j w a. listed_one c.args.states.now c.args.element.now i j w a c.args.k c.push.new.self.items (c.in_ok-push.ensures.items ∙ ap (λ xs. xs ++ c.args.k ∷ []) c.new-numbers.ensures.items) c.requires.least c.requires.inside c.requires.first
+loop-place-init c = λ i j w a. listed_one c.args.states.now c.args.element.now i j w a c.args.k c.push.new.self.items (c.in_ok-push.ensures.items ∙ ap (λ xs. xs ++ c.args.k ∷ []) c.in_ok-numbers.ensures.items) c.requires.least c.requires.inside c.requires.first
 
 pub loop-place-preserved : goal.loop-place-preserved
 loop-place-preserved c = λ i j w a. elim c.if-marks-place.branch [

@@ -1,12 +1,10 @@
 use Rattle.std.proofs.Common.{arith}
-use Rattle.tensor_defs.specs.Operation.{identity}
-use Rattle.group_closing.proofs.CosetClosing.{adding_none, adding_more, in_front, with_one}
+use Rattle.group_closing.proofs.CosetClosing.{adding_none, adding_more, in_front}
 use Rattle.group_closing.proofs.joining.add_coset.Goals as goal
 
 pub loop-place-init : goal.loop-place-init
 loop-place-init c =
-    adding_none c.args.first.now c.args.order c.args.marks.now c.add.new.marks c.args.found.now c.add.new.found c.requires.sized
-    c.requires.counted c.requires.one (with_one c.args.first.now (c.requires.frame identity c.requires.one)) c.requires.new c.add.ensures
+    adding_none c.args.first.now c.args.order c.args.marks.now c.args.found.now c.requires.sized c.requires.counted c.requires.new
 
 pub product-requires : goal.product-requires
 product-requires c =
@@ -16,6 +14,6 @@ product-requires c =
 
 pub loop-place-preserved : goal.loop-place-preserved
 loop-place-preserved c =
-    adding_more c.args.first.now c.args.order c.loop-place.place c.args.marks.now c.loop-place.marks c.add-in-loop-place.new.marks
-    c.args.found.now c.loop-place.found c.add-in-loop-place.new.found c.at-element.result c.product.result c.loop-place.invariant
-    (omega arith) c.requires.within c.at-element.ensures c.product.ensures.is c.add-in-loop-place.ensures
+    adding_more c.args.first.now c.args.order c.loop-place.place c.args.marks.now c.loop-place.marks c.add.new.marks
+    c.args.found.now c.loop-place.found c.add.new.found c.at-element.result c.product.result c.loop-place.invariant
+    (omega arith) c.requires.within c.at-element.ensures c.product.ensures.is c.add.ensures
