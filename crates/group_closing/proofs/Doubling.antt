@@ -3,22 +3,23 @@
 --   cancelled    what is multiplied by an operation can be told from the product
 --   span_kept    a product with an operation outside is outside
 --   doubled_none, doubled_more    the doubling
---   few, room_left    at most 96 operations have one frame
+--   plain_marked, few, room_left    plain operations; at most 96 operations have one frame
 --   doubled_closed, taken_span, span_none, doubled_common
 --       after the doubling the first elements are done for the new operation too
 use Rattle.list_laws.proofs.Kit.{[], ◌≡◌, ℕ, zero, suc, ◌+◌, ◌-◌, ◌*◌, ◌^◌, ◌/◌, ◌%◌, ◌<◌, ◌≤◌, Bool, true, false, List, ◌∷◌, ◌++◌, length, refl, ap, sym}
 use Rattle.list_laws.proofs.Kit.{◌∙◌, arith, subst, lit<, lit≤, ◌⊎◌, inl, inr, cond, add-one, pow-le-pow_right, pow-succ', get_or_push, length_push}
 use Rattle.list_laws.proofs.Kit.{get_or_append_left, Contains-append_left, Contains-push, cases_lt}
-use Rattle.std.specs.Prelude.{slice_index_or, set, Contains, nat_eq}
+use Rattle.std.specs.Prelude.{slice_index_or, set, Contains, nat_eq, ◌↔◌}
 use Rattle.list_laws.proofs.Prelude.{all_below, below_told, same_bool, same_bool_true}
 use Rattle.tensor_defs.specs.Prelude.{Operation, IsProduct, identity, IsPlain, IsHexagonal, HaveCommonFrame}
 use Rattle.tensor_laws.proofs.Prelude.{product_unique, product_assoc, product_assoc_back}
 use Rattle.op_matrix.specs.Prelude.{nth_operation, operation_at, place, plain_frame, hex_frame}
 use Rattle.op_matrix.proofs.Facts.{inverse_at, inverse_code, half_below}
 use Rattle.op_matrix.proofs.Products.{frame_code}
-use Rattle.op_matrix.proofs.Hexagonal.{plain_at_of, hex_of}
+use Rattle.op_matrix.proofs.Hexagonal.{plain_at_of, plain_at_told, hex_of}
 use Rattle.op_matrix.proofs.Order.{inverse_plain, inverse_hex, plain_closed, hex_closed}
 use Rattle.op_matrix.proofs.Listed.{plain_listed, hex_listed, plain_one, hex_one, OneTimes}
+use Rattle.group_closing.specs.Marks.{marks_of}
 use Rattle.group_closing.specs.Prelude.{mark_at, marked_below, Reached, Added, unmarked, IsClosing, IsClosed, Grows, TimesReached, IsDone, HaveFrame}
 use Rattle.group_closing.specs.Prelude.{Spanned, IsKept, InverseIn, IsSpan, IsDoubled}
 use Rattle.group_closing.proofs.Reaching.{spanned_times, spanned_framed, spanned_plain, spanned_hex, reached_spanned, reached_more, times_more}
@@ -194,6 +195,23 @@ plain_at_all = refl
 hex_at_all : all_below 128 (λ k. same_bool (mark_at hex_marks k) (is_hex_at k)) ≡ true
 unfolding hex_marks frame_code
 hex_at_all = refl
+
+-- the marks of the plain operations by binary digits
+plain_digits : marks_of 18374967954648269055 18374967954648269055 ≡ plain_marks
+unfolding plain_marks frame_code marks_of
+plain_digits = refl
+
+pub plain_marked : (k : ℕ) → k < 128 → (mark_at (marks_of 18374967954648269055 18374967954648269055) k ≡ true) ↔ IsPlain (nth_operation k)
+unfolding nth_operation
+plain_marked k h = (
+  λ e. plain_at_told (k / 2) (nat_eq (k % 2) 1) (half_below k h) (sym same ∙ e),
+  λ p. same ∙ plain_at_of (k / 2) (nat_eq (k % 2) 1) (half_below k h) p,
+)
+  where
+    same : mark_at (marks_of 18374967954648269055 18374967954648269055) k ≡ is_plain_at k
+    same =
+        ap (λ m. mark_at m k) plain_digits
+        ∙ same_bool_true (mark_at plain_marks k) (is_plain_at k) (below_told 128 (λ k. same_bool (mark_at plain_marks k) (is_plain_at k)) plain_at_all k h)
 
 fewer_at : (m p : List Bool) (b c : Bool) (n u : ℕ) → (b ≡ true → c ≡ true) → u ≤ n → cond c u (1 + u) ≤ cond b n (1 + n)
 fewer_at m p true true n u h l = l

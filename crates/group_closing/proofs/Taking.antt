@@ -1,14 +1,14 @@
 -- Going through the elements of a group, and taking those that aren't products of the ones taken before.
 --   takes_past, takes_more, IsTaking, taking_none, taking_past, taking_more ..    one operation more
-use Rattle.list_laws.proofs.Kit.{◌≡◌, ℕ, ◌+◌, ◌<◌, ◌≤◌, Bool, true, false, List, [], ◌∷◌, ◌++◌, length, refl, ap, sym, ◌∙◌, arith, subst, ◌⊎◌, inl, inr, take}
-use Rattle.list_laws.proofs.Kit.{take_more, take_all, get_or_default, Contains-push, Contains-push_cases, Contains-get_or, cases_lt, eqb-true, false≢true}
-use Rattle.std.specs.Prelude.{slice_index_or, Contains, ◌↔◌, nat_eq}
+use Rattle.list_laws.proofs.Kit.{◌≡◌, ℕ, ◌+◌, ◌<◌, ◌≤◌, Bool, true, false, List, [], ◌∷◌, ◌++◌, length, ap, sym, ◌∙◌, arith, subst, ◌⊎◌, inl, inr, take}
+use Rattle.list_laws.proofs.Kit.{take_more, take_all, get_or_default, Contains-push, Contains-push_cases, Contains-get_or, cases_lt}
+use Rattle.std.specs.Prelude.{slice_index_or, Contains, ◌↔◌}
 use Rattle.list_laws.proofs.Lists.{none_held}
 use Rattle.tensor_defs.specs.Operation.{Operation}
 use Rattle.tensor_laws.proofs.Products.{generated_within}
 use Rattle.op_matrix.specs.Table.{place}
 use Rattle.op_matrix.proofs.Order.{placed}
-use Rattle.group_closing.specs.Prelude.{mark_at, marked_below, Reached, Grows, HaveFrame, Spanned, IsGroup, IsKept, IsSpan, TakesFrom, IsGreedy}
+use Rattle.group_closing.specs.Prelude.{mark_at, Reached, Grows, HaveFrame, Spanned, IsGroup, IsSpan, TakesFrom, IsGreedy}
 use Rattle.group_closing.proofs.Reaching.{reached_spanned, reached_more, reached_all, unreached}
 use Rattle.group_closing.proofs.Spans.{member_framed, span_member}
 

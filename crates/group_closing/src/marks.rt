@@ -1,11 +1,15 @@
 //! Marks of operations.
 ghost use Rattle.std.specs.Prelude.{◌≡◌, ◌+◌, ◌*◌, ◌<◌, ◌↔◌, ◌⊎◌, ℕ, IsTrue, replicate, set, true, false, length};
 ghost use Rattle.std.specs.Int.{bit_at};
+ghost use Rattle.tensor_defs.specs.Frames.{IsPlain};
 ghost use Rattle.op_matrix.specs.Table.{nth_operation, place};
 ghost use Rattle.group_closing.specs.Marks.{AreWithin, mark_at, unmarked};
 
 use op_matrix::Op;
 use std::marker::Model;
+
+/// A binary digit for each of the 64 matrices that is plain.
+const PLAIN: u64 = 0xff00_ffff_ffff_00ff;
 
 /// Which of the 128 operations are marked: a binary digit for each of the 64 matrices, the least significant one for
 /// the identity, where the matrix is marked unprimed, and another where it is marked primed.
@@ -32,6 +36,16 @@ impl Marks {
         Marks {
             unprimed: 0,
             primed: 0,
+        }
+    }
+
+    /// Marks of the plain operations, unprimed and primed.
+    pub fn plain() -> Marks
+        ensures { (k : ℕ) → k < 128 → (mark_at result k ≡ true) ↔ IsPlain (nth_operation k) }
+    {
+        Marks {
+            unprimed: PLAIN,
+            primed: PLAIN,
         }
     }
 

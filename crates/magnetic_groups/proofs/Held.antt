@@ -1,7 +1,7 @@
 -- The generators that a group holds.
 --   kept_by, kept_marked    a group by one list of generators or another
 --   generators_told    what is read of them
-use Rattle.list_laws.proofs.Kit.{◌≡◌, ◌+◌, ◌<◌, Bool, true, false, List, [], ◌∷◌, length, refl, ap, sym, ◌∙◌, arith, subst, eqb-true, false≢true}
+use Rattle.list_laws.proofs.Kit.{◌≡◌, Bool, List, length, sym, subst}
 use Rattle.std.specs.Prelude.{Contains, ◌↔◌, Option}
 use Rattle.tensor_defs.specs.Operation.{Operation}
 use Rattle.tensor_laws.proofs.Products.{generated_within}

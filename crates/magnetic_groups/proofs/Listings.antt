@@ -2,7 +2,7 @@
 --   kept_listing, span_none, only_identity    the listing of a span, and of that of no generators
 --   Joined, joined_frame, joined_span, fits_frame, joined_told, joined_parts    one operation more
 --   accepted    a symbol whose group is without time reversal alone
-use Rattle.list_laws.proofs.Kit.{◌≡◌, Bool, true, false, List, [], ◌∷◌, ◌++◌, sym, ◌∙◌, subst, ◌⊎◌, inl, inr, ap}
+use Rattle.list_laws.proofs.Kit.{◌≡◌, Bool, false, List, [], ◌∷◌, ◌++◌, sym, ◌∙◌, subst, ◌⊎◌, inl, inr}
 use Rattle.list_laws.proofs.Kit.{Contains-append_left, Contains-push, Contains-push_cases, false≢true}
 use Rattle.std.specs.Prelude.{Contains, ◌↔◌, IsTrue, Option}
 use Rattle.list_laws.proofs.Lists.{none_held}

@@ -3,15 +3,14 @@
 --   marked_has      the mark tells membership
 --   marked_within   marks among others
 --   marked_form     the matrices that are marked
-use Rattle.std.proofs.Common.{◌≡◌, ℕ, zero, suc, ◌+◌, ◌*◌, ◌<◌, ◌≤◌, Bool, true, false, cond, List, [], ◌∷◌, ◌++◌}
-use Rattle.std.proofs.Common.{length, refl, ap, sym, ◌∙◌, arith, subst, ◌⊎◌, inl, inr, add-one, take}
+use Rattle.std.proofs.Common.{◌≡◌, ℕ, ◌+◌, ◌*◌, ◌<◌, Bool, true, false, List}
+use Rattle.std.proofs.Common.{ap, sym, ◌∙◌, arith, subst, ◌⊎◌, inl, inr}
 use Rattle.std.specs.Prelude.{Contains, ◌↔◌, IsTrue}
-use Rattle.std.proofs.lemmas.List.{length-append, take_more, take_all}
 use Rattle.tensor_defs.specs.Operation.{Operation}
 use Rattle.op_matrix.specs.Table.{nth_operation, operation_at, place}
 use Rattle.op_matrix.proofs.Facts.{nth_at, place_of_nth}
-use Rattle.magnetic_groups.specs.Prelude.{AreWithin, mark_at, marked_below, unmarked, HasForm, In, IsWithin}
-use Rattle.group_closing.proofs.Marked.{Below, contains_told, contains_of, marked_next, marked_past}
+use Rattle.magnetic_groups.specs.Prelude.{AreWithin, mark_at, marked_below, HasForm, In, IsWithin}
+use Rattle.group_closing.proofs.Marked.{Below, contains_told, contains_of}
 
 -- ---- the mark tells membership
 told_at : (m : List Bool) (k : ℕ) → k < 128 → Contains (marked_below 128 m) (nth_operation k) → mark_at m k ≡ true

@@ -5,7 +5,7 @@
 --   TellsOutside   the least place of a member that isn't in the other list, or that there is none
 --   TellsPlace     the place of a member, or that it is none
 -- Source: the definition of a group.
-use Rattle.std.specs.Prelude.{◌≡◌, ℕ, ◌<◌, slice_index_or, slice_get, Option, Some, None, MatchOption, Bool, List, [], ◌∷◌, length, Contains, ◌⊎◌}
+use Rattle.std.specs.Prelude.{◌≡◌, ℕ, ◌<◌, slice_index_or, slice_get, Option, Some, None, MatchOption, Bool, List, length, Contains, ◌⊎◌}
 use Rattle.tensor_defs.specs.Prelude.{Operation, IsBelow, IsPlain, IsHexagonal, AllOf}
 use Rattle.op_matrix.specs.Table.{operation_at}
 pub use Rattle.group_closing.specs.Sets.{HaveFrame, In, InverseIn, IsGroup, IsKept, Spanned}

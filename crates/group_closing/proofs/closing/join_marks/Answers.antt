@@ -1,4 +1,4 @@
-use Rattle.std.proofs.Common.{◌≤◌, arith, length, subst, sym}
+use Rattle.std.proofs.Common.{arith, subst, sym}
 use Rattle.group_closing.specs.Joining.{HoldsGroup}
 use Rattle.group_closing.proofs.CosetClosing.{kept_group}
 use Rattle.group_closing.proofs.closing.join_marks.Goals as goal

@@ -1,4 +1,4 @@
-use Rattle.list_laws.proofs.Kit.{◌+◌, ◌<◌, ◌++◌, ◌∷◌, [], ◌∙◌, arith, length, length_push, sym, subst}
+use Rattle.list_laws.proofs.Kit.{◌+◌, ◌++◌, ◌∷◌, [], ◌∙◌, arith, length_push, sym, subst}
 use Rattle.group_closing.proofs.CosetClosing.{cosets_past, cosets_next, coset_told, firsts_room, front_spanned, IsReachingCosets}
 use Rattle.group_closing.proofs.Spans.{span_common}
 use Rattle.group_closing.proofs.joining.reach_cosets.Goals as goal

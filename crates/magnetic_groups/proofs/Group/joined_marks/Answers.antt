@@ -1,4 +1,4 @@
-use Rattle.std.proofs.Common.{◌++◌, ◌∷◌, [], ap, refl, subst, sym}
+use Rattle.std.proofs.Common.{◌++◌, ◌∷◌, [], refl, subst, sym}
 use Rattle.magnetic_groups.specs.Sets.{IsKept}
 use Rattle.magnetic_groups.proofs.Listings.{joined_parts, joined_told, kept_listing}
 use Rattle.magnetic_groups.proofs.Group.joined_marks.Goals as goal
