@@ -7,7 +7,7 @@
 --   rows_fit, row_fits    the list of oriented parents, by computing
 use Rattle.list_laws.proofs.Kit.{[], ◌≡◌, ℕ, zero, suc, ◌+◌, ◌*◌, ◌^◌, ◌<◌, ◌≤◌, Bool, true, false, cond, List, ◌∷◌, ◌++◌, refl, ap, sym, ◌∙◌, arith, subst}
 use Rattle.list_laws.proofs.Kit.{lit<, inl, inr, nat_tests, Contains-append_cases, eqb-true, false≢true}
-use Rattle.std.specs.Prelude.{Contains, IsTrue, ◌↔◌, nat_eq, nat_le, get_or, map}
+use Rattle.std.specs.Prelude.{Contains, ◌↔◌, nat_eq, nat_le, get_or, map}
 use Rattle.list_laws.proofs.Prelude.{each_from, each_push, all_below, below_told, implied, both}
 use mathlib.Core.Bool.{xor}
 use Rattle.tensor_defs.specs.declared.Setting.{Setting}

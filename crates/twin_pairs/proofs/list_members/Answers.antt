@@ -1,4 +1,4 @@
-use Rattle.std.proofs.Common.{◌<◌, ◌+◌, [], ◌∷◌, ◌++◌, length, ◌∙◌, ap, subst, arith}
+use Rattle.std.proofs.Common.{◌<◌, ◌+◌, [], ◌∷◌, ◌++◌, length, ◌∙◌, ap, arith}
 use Rattle.group_closing.specs.Marks.{mark_at}
 use Rattle.twin_pairs.proofs.list_members.Goals.{then-marks-place+in_ok-push-2, else-marks-place}
 use Rattle.twin_pairs.proofs.Listings.{listed_one, listed_push, listed_skip, listed_done}
