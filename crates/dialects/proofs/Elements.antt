@@ -14,7 +14,7 @@ use Rattle.tensor_defs.specs.declared.Direction.{Direction}
 use Rattle.tensor_defs.specs.declared.Direction.TheVariants as direction
 use Rattle.tensor_defs.specs.declared.Setting.{Setting}
 use Rattle.tensor_defs.specs.declared.Setting.TheVariants.{Default, X, Z, XY, D, P}
-use Rattle.tensor_defs.specs.Prelude.{Each, Operation, reversal, identity, GroupSymbol, IsGroupSymbol, Operator, operation_of, turned_to, takes_setting}
+use Rattle.tensor_defs.specs.Prelude.{Each, Operation, reversal, GroupSymbol, IsGroupSymbol, Operator, operation_of, turned_to, takes_setting}
 use Rattle.tensor_defs.specs.Prelude.{listed, operations_of, parent_operators, generators, InGroup, IsAccepted}
 use Rattle.tensor_laws.proofs.Products.{product_unique}
 use Rattle.list_laws.proofs.Prelude.{all_below, below_told, implied, each_held}

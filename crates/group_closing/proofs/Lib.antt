@@ -5,4 +5,4 @@ pub mod Spans
 mod Digits
 mod Doubling
 mod Taking
-pub mod CosetClosing
+mod CosetClosing

@@ -3,12 +3,11 @@
 --   spanned_times, spanned_one, spanned_plain, spanned_hex, spanned_framed, span_frame    spans
 --   reached_spanned, reached_more, times_more, grows_refl, grows_trans, added_grows ..    one more operation
 --   IsReaching, reaching_none, reaching_more    the products of one element with all generators
---   no_mark, closed_none, closed_more, work_falls, reached_all, held_at ..    the whole closing
-use Rattle.list_laws.proofs.Kit.{◌≡◌, ℕ, zero, suc, ◌+◌, ◌-◌, ◌*◌, ◌<◌, ◌≤◌, ◌≢◌, Bool, true, false, List, [], ◌∷◌, ◌++◌, length, refl, ap, sym, ◌∙◌, arith}
+--   no_mark, closed_none, closed_more, reached_all, held_at ..    the whole closing
+use Rattle.list_laws.proofs.Kit.{◌≡◌, ℕ, zero, suc, ◌+◌, ◌<◌, ◌≤◌, ◌≢◌, Bool, true, false, List, [], ◌∷◌, ◌++◌, length, refl, ap, sym, ◌∙◌, arith}
 use Rattle.list_laws.proofs.Kit.{subst, ◌⊎◌, inl, inr, length-set, get_or_append_left, get_or_push, Contains-append_left, Contains-push, Contains-get_or}
-use Rattle.list_laws.proofs.Kit.{Contains-push_cases, cases_lt}
+use Rattle.list_laws.proofs.Kit.{length_push, Contains-push_cases, cases_lt}
 use Rattle.std.specs.Prelude.{replicate, set, slice_index_or, Contains}
-use Rattle.std.proofs.lemmas.List.{length-append}
 use Rattle.tensor_defs.specs.Prelude.{Operation, IsProduct, identity, IsPlain, IsHexagonal, HaveCommonFrame}
 use Rattle.tensor_laws.proofs.Products.{generated_within}
 use Rattle.op_matrix.specs.Table.{nth_operation, place}
@@ -101,12 +100,6 @@ grows_trans m m' m'' f f' f'' a b = record {
   work = omega arith;
 }
 
-Longer : List Operation → Operation → Type 0
-Longer f g = length (f ++ g ∷ []) ≡ length f + 1
-
-longer_by_one : (f : List Operation) (g : Operation) → length (f ++ g ∷ []) ≡ length f + 1
-longer_by_one f g = omega (arith, length-append f (g ∷ []))
-
 pub added_grows : (g : Operation) (m m' : List Bool) (f f' : List Operation) → length m ≡ 128 → Added g m f m' f' →
     Grows m f m' f'
 added_grows g m m' f f' l a = by a.either
@@ -117,9 +110,9 @@ added_grows g m m' f f' l a = by a.either
     by (inr (e, p, q)) = subst (λ x. Grows m f x f') (sym p) (subst (λ x. Grows m f (set m (place g) true) x) (sym q)
         (record {
           marks = λ k. set_kept m (place g) k;
-          longer = let n = longer_by_one f g in omega (arith, n);
+          longer = let n = length_push f g in omega (arith, n);
           same = λ j d h. get_or_append_left f (g ∷ []) d j h;
-          work = let n = longer_by_one f g in let u = set_unmarked m (place g) (rw l a.below) e in omega (arith, n, u);
+          work = let n = length_push f g in let u = set_unmarked m (place g) (rw l a.below) e in omega (arith, n, u);
         }))
 
 pub added_reached : (g : Operation) (m m' : List Bool) (f f' : List Operation) → length m ≡ 128 → Added g m f m' f' →
@@ -148,7 +141,7 @@ apart_new f g m u held apart i j d h l = λ e. by e (cases_lt j (length f))
     by e (inl a) =
         apart i j d h a (sym (get_or_append_left f (g ∷ []) d i (omega arith)) ∙ e ∙ get_or_append_left f (g ∷ []) d j a)
     by e (inr a) =
-        let n = longer_by_one f g in
+        let n = length_push f g in
         let s : length f ≡ j = omega (arith, n) in
         let b : i < length f = omega arith in
         unreached m g u
@@ -158,7 +151,7 @@ added_new : (gens : List Operation) (g : Operation) (m : List Bool) (f : List Op
     place g < 128 → g ≡ nth_operation (place g) → mark_at m (place g) ≡ false → Spanned gens g →
     IsClosing gens (set m (place g) true) (f ++ g ∷ [])
 added_new gens g m f c below at u s = record {
-  counted = let n = longer_by_one f g in let k = c.counted in let w = set_unmarked m (place g) (rw c.sized below) u in
+  counted = let n = length_push f g in let k = c.counted in let w = set_unmarked m (place g) (rw c.sized below) u in
       omega (arith, n, k, w);
   apart = apart_new f g m u c.held c.apart;
   sized = length-set m (place g) true ∙ c.sized;
@@ -275,10 +268,6 @@ closed_more gens n m m' f f' g c h at cl gr dn = record {
         before a = omega arith
     by j d l (inr a) = let e : j ≡ n = omega arith in subst (IsDone gens m')
         (sym (gr.same j d (rw e h) ∙ ap (λ x. slice_index_or f x d) e ∙ at d)) dn
-
-pub work_falls : (n : ℕ) (m m' : List Bool) (f f' : List Operation) → n < length f → Grows m f m' f' →
-    2 * unmarked m' + length f' - (n + 1) < 2 * unmarked m + length f - n
-work_falls n m m' f f' h g = let a = g.work in let b = g.longer in omega arith
 
 pub reached_all : (gens : List Operation) (n : ℕ) (m : List Bool) (f : List Operation) → IsClosed gens n m f →
     length f ≤ n → (k : Operation) → Spanned gens k → Reached m k
