@@ -11,8 +11,8 @@ use Rattle.tensor_defs.specs.Prelude.{InGroup, IsBelow, Each, IsRising, IsListin
 use Rattle.text_defs.specs.Refusals.{IsOutside}
 use Rattle.op_matrix.specs.Table.{place}
 use Rattle.op_matrix.proofs.Listed.{Placed}
-use Rattle.magnetic_groups.specs.Marks.{marked_below}
-use Rattle.magnetic_groups.proofs.Marked.{contains_of, marked_rising}
+use Rattle.group_closing.specs.Marks.{marked_below}
+use Rattle.group_closing.proofs.Marked.{contains_of, marked_rising}
 use Rattle.answer_laws.proofs.Groups.{symbol_placed}
 
 abbrev pub NotFalse : Type 0 → Type 0

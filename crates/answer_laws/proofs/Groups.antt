@@ -10,9 +10,9 @@ use Rattle.op_matrix.specs.View.{hex_frame, plain_frame}
 use Rattle.op_matrix.proofs.Hexagonal.{hex_common, plain_common, hex_kept_at, plain_kept_at, zero_hex}
 use Rattle.op_matrix.proofs.Listed.{Placed, plain_listed, hex_listed, plain_placed, hex_placed, zero_plain}
 use Rattle.magnetic_groups.specs.Sets.{HaveFrame, InverseIn, Spanned}
-use Rattle.magnetic_groups.proofs.Inverses.{inverse_in}
-use Rattle.magnetic_groups.proofs.Reaching.{spanned_one, spanned_plain, spanned_hex}
-use Rattle.magnetic_groups.proofs.Spans.{span_product}
+use Rattle.group_closing.proofs.Inverses.{inverse_in}
+use Rattle.group_closing.proofs.Reaching.{spanned_one, spanned_plain, spanned_hex}
+use Rattle.group_closing.proofs.Spans.{span_product}
 use Rattle.magnetic_groups.proofs.SymbolFrames.{generators_framed}
 
 -- ---- the span of operations of one frame

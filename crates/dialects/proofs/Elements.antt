@@ -14,7 +14,7 @@ use Rattle.tensor_defs.specs.declared.Direction.{Direction}
 use Rattle.tensor_defs.specs.declared.Direction.TheVariants as direction
 use Rattle.tensor_defs.specs.declared.Setting.{Setting}
 use Rattle.tensor_defs.specs.declared.Setting.TheVariants.{Default, X, Z, XY, D, P}
-use Rattle.tensor_defs.specs.Prelude.{Each, Operation, reversal, identity, GroupSymbol, IsGroupSymbol, Operator, operation_of, turned_to, takes_setting}
+use Rattle.tensor_defs.specs.Prelude.{Each, Operation, reversal, GroupSymbol, IsGroupSymbol, Operator, operation_of, turned_to, takes_setting}
 use Rattle.tensor_defs.specs.Prelude.{listed, operations_of, parent_operators, generators, InGroup, IsAccepted}
 use Rattle.tensor_laws.proofs.Products.{product_unique}
 use Rattle.list_laws.proofs.Prelude.{all_below, below_told, implied, each_held}
@@ -23,8 +23,8 @@ use Rattle.op_matrix.proofs.Frames.{also, three_told}
 use Rattle.op_matrix.proofs.Products.{product_code, frame_code, common, product_at}
 use Rattle.op_matrix.proofs.Hexagonal.{implies, identity_at}
 use Rattle.magnetic_groups.specs.Sets.{HaveFrame}
-use Rattle.magnetic_groups.proofs.Reaching.{spanned_one}
-use Rattle.magnetic_groups.proofs.Spans.{span_product, span_member}
+use Rattle.group_closing.proofs.Reaching.{spanned_one}
+use Rattle.group_closing.proofs.Spans.{span_product, span_member}
 use Rattle.magnetic_groups.proofs.SymbolFrames.{generators_framed}
 use Rattle.dialects.specs.LongTexts.{form_at, Piece, HasPrimed, IsOperation}
 use Rattle.dialects.specs.Laws.{LongOperatorsAreElements}

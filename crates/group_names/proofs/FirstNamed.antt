@@ -7,11 +7,11 @@
 --   told_at, primed_piece, below_count, past_count, at_number    the pieces of the look-up
 --   plain_named, grey_named, primed_named    the symbols of a parent and a setting
 --   row_is, all_oriented, all_named, parent_there    all oriented parents
-use Rattle.list_laws.proofs.Kit.{◌≡◌, ℕ, zero, suc, ◌+◌, ◌-◌, ◌^◌, ◌<◌, ◌≤◌, Bool, true, false, cond, List, [], ◌∷◌, ◌++◌, length, refl, ap, sym, ◌∙◌, arith}
+use Rattle.list_laws.proofs.Kit.{◌≡◌, ℕ, zero, suc, ◌+◌, ◌-◌, ◌^◌, ◌<◌, ◌≤◌, true, false, List, [], ◌∷◌, ◌++◌, length, refl, ap, sym, ◌∙◌, arith}
 use Rattle.list_laws.proofs.Kit.{subst, take, add-one, ◌⊎◌, inl, inr, flat_map, length_push, get_or_append_left, get_or_push, get_or_default, flat_map_single}
 use Rattle.list_laws.proofs.Kit.{cases_lt}
 use Rattle.std.proofs.Common.{append_assoc}
-use Rattle.std.specs.Prelude.{Option, Some, None, slice_index_or, map, filter, SomeIff}
+use Rattle.std.specs.Prelude.{Option, Some, None, slice_index_or, map, SomeIff}
 use Rattle.tensor_defs.specs.declared.Setting.{Setting}
 use Rattle.group_symbol.specs.Readings.{symbol_of}
 use Rattle.tensor_defs.specs.Prelude.{Each, up_to, Operation, GroupSymbol, operator_count, parent_operators, IsNamed, IsNameOf, symbols, symbols_with}

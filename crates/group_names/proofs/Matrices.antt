@@ -7,7 +7,7 @@
 --   rows_fit, row_fits    the list of oriented parents, by computing
 use Rattle.list_laws.proofs.Kit.{[], ◌≡◌, ℕ, zero, suc, ◌+◌, ◌*◌, ◌^◌, ◌<◌, ◌≤◌, Bool, true, false, cond, List, ◌∷◌, ◌++◌, refl, ap, sym, ◌∙◌, arith, subst}
 use Rattle.list_laws.proofs.Kit.{lit<, inl, inr, nat_tests, Contains-append_cases, eqb-true, false≢true}
-use Rattle.std.specs.Prelude.{Contains, IsTrue, ◌↔◌, nat_eq, nat_le, get_or, map}
+use Rattle.std.specs.Prelude.{Contains, ◌↔◌, nat_eq, nat_le, get_or, map}
 use Rattle.list_laws.proofs.Prelude.{each_from, each_push, all_below, below_told, implied, both}
 use mathlib.Core.Bool.{xor}
 use Rattle.tensor_defs.specs.declared.Setting.{Setting}
@@ -24,9 +24,9 @@ use Rattle.op_matrix.proofs.Listed.{plain_listed, hex_listed, plain_one}
 use Rattle.op_matrix.proofs.Products.{product_code, frame_code, common, product_at, product_code_below}
 use Rattle.magnetic_groups.specs.Sets.{HasForm, In, IsGroup, InverseIn, HaveFrame}
 use Rattle.magnetic_groups.proofs.Cosets.{group_inverse, group_product}
-use Rattle.magnetic_groups.proofs.Members.{member_framed}
-use Rattle.magnetic_groups.proofs.Reaching.{spanned_one}
-use Rattle.magnetic_groups.proofs.Spans.{span_common, span_product, span_member}
+use Rattle.group_closing.proofs.Spans.{member_framed}
+use Rattle.group_closing.proofs.Reaching.{spanned_one}
+use Rattle.group_closing.proofs.Spans.{span_common, span_product, span_member}
 use Rattle.magnetic_groups.proofs.SymbolFrames.{each_operator, operators_pass, grey_tail, tail_is, reversal_plain, generators_framed}
 use Rattle.group_names.specs.LookUps.{row_of}
 use Rattle.group_names.proofs.Forms.{partner, operators_part}

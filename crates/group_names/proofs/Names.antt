@@ -1,5 +1,5 @@
 -- What a test of one symbol tells.
-use Rattle.list_laws.proofs.Kit.{◌≡◌, ℕ, ◌+◌, ◌*◌, ◌<◌, ◌≤◌, Bool, true, false, List, [], ◌∷◌, length, refl, ap, sym, ◌∙◌, arith, subst, inl, inr, false≢true}
+use Rattle.list_laws.proofs.Kit.{◌≡◌, ℕ, ◌<◌, ◌≤◌, Bool, true, false, List, [], ◌∷◌, length, refl, ap, sym, ◌∙◌, arith, subst, inl, inr, false≢true}
 use Rattle.list_laws.proofs.Kit.{Contains-append_right}
 use Rattle.std.specs.Prelude.{Contains, ◌↔◌, IsTrue, slice_index_or, Some, None}
 use mathlib.Core.Bool.{beq, not}
@@ -7,11 +7,10 @@ use Rattle.list_laws.proofs.Tests.{same_truth}
 use Rattle.tensor_defs.specs.Prelude.{Operation, reversal, GroupSymbol, IsGroupSymbol, generators, operations_of, parent_operators, InGroup, IsAccepted}
 use Rattle.tensor_defs.specs.Prelude.{IsBelow, IsNamed}
 use Rattle.tensor_laws.proofs.Products.{generated_within}
-use Rattle.op_matrix.specs.Table.{nth_operation, operation_at}
-use Rattle.op_matrix.proofs.Facts.{nth_at}
+use Rattle.op_matrix.specs.Table.{operation_at}
 use Rattle.magnetic_groups.specs.Sets.{HasForm, In, IsGroup}
-use Rattle.magnetic_groups.proofs.Members.{member_framed}
-use Rattle.magnetic_groups.proofs.Spans.{span_member}
+use Rattle.group_closing.proofs.Spans.{member_framed}
+use Rattle.group_closing.proofs.Spans.{span_member}
 use Rattle.magnetic_groups.proofs.SymbolFrames.{generators_framed, grey_tail}
 use Rattle.group_names.specs.LookUps.{IsFirstNamed, HoldsAll, SameForms}
 use Rattle.group_names.proofs.Matrices.{At, framed_at, both_marks, any_mark}

@@ -2,8 +2,8 @@
 --   number_agrees    two facts with one number hold of the same numbers
 --   number_same      two facts that hold of the same numbers have one number
 --   digits_below, digits_number    the number of a test
-use Rattle.list_laws.proofs.Kit.{◌≡◌, ℕ, zero, suc, ◌+◌, ◌-◌, ◌*◌, ◌^◌, ◌<◌, ◌≤◌, Bool, true, false, cond, refl, ap, sym, ◌∙◌, arith, subst, ◌⊎◌, inl, inr}
-use Rattle.list_laws.proofs.Kit.{bit_at, pow-succ', cases_lt, false≢true, bit_at-lt, bit_at_lowest, bit_at_cat_low, bit_at_cat_high, same_from_bits_below}
+use Rattle.list_laws.proofs.Kit.{◌≡◌, ℕ, zero, suc, ◌+◌, ◌-◌, ◌*◌, ◌^◌, ◌<◌, ◌≤◌, Bool, true, false, cond, refl, ap, sym, ◌∙◌, arith, ◌⊎◌, inl, inr}
+use Rattle.list_laws.proofs.Kit.{bit_at, pow-succ', cases_lt, false≢true, bit_at-lt, bit_at_cat_low, bit_at_cat_high, same_from_bits_below}
 use Rattle.std.specs.Prelude.{◌↔◌}
 use Rattle.group_names.specs.LookUps.{IsNumberOf}
 use Rattle.group_names.proofs.Matrices.{digits_of}

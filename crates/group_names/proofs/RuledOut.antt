@@ -1,5 +1,5 @@
 -- The symbols of a parent in a setting that are ruled out together, and those of a row of the oriented parents.
-use Rattle.list_laws.proofs.Kit.{◌≡◌, ℕ, zero, suc, ◌+◌, ◌-◌, ◌*◌, ◌/◌, ◌%◌, ◌^◌, ◌<◌, ◌≤◌, Bool, true, false, List, [], ◌∷◌, refl, sym, subst, ◌∙◌, arith}
+use Rattle.list_laws.proofs.Kit.{◌≡◌, ℕ, zero, suc, ◌+◌, ◌-◌, ◌*◌, ◌/◌, ◌%◌, ◌^◌, ◌<◌, ◌≤◌, true, false, List, [], ◌∷◌, refl, sym, subst, ◌∙◌, arith}
 use Rattle.list_laws.proofs.Kit.{pow-succ', pow_pos, false≢true}
 use Rattle.std.specs.Prelude.{None, map, ◌↔◌}
 use Rattle.tensor_defs.specs.declared.Setting.{Setting}

@@ -149,7 +149,7 @@ fn name_oriented(group: &GroupMarks, matrices: u64, place: usize) -> Option<Symb
 }
 
 /// The first accepted symbol whose group has these elements; none exactly where there is none.
-fn first_name(group: &GroupMarks) -> Option<SymbolTree>
+pub fn first_name(group: &GroupMarks) -> Option<SymbolTree>
     ensures { IsNameOf result (In group.now) }
 {
     let matrices = group.matrices();

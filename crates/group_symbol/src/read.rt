@@ -1,5 +1,5 @@
 //! Reading a symbol from a text. Each parent is tried in turn; the place of a fault is the furthest one.
-ghost use Rattle.std.specs.Prelude.{◌≡◌, ◌≢◌, take, slice_index, ◌≤◌, ◌<◌, IfOk, length};
+ghost use Rattle.std.specs.Prelude.{◌≡◌, ◌≢◌, take, slice_index, get_or, ◌≤◌, ◌<◌, IfOk, length, true};
 ghost use Rattle.text_defs.specs.GroupTexts.{operators_in};
 ghost use Rattle.group_symbol.specs.Parts.{ReadsSuffix, ReadsEnding, ReadsFull};
 ghost use Rattle.group_symbol.specs.Readings.{ReadsGroup};
@@ -93,11 +93,24 @@ fn read_ending(parent: Parent, plain: bool, word: &[u8]) -> Result<(bool, Settin
     }
 }
 
+/// Whether a parent's text and a word begin with two different bytes.
+fn begin_apart(signs: &[u8], word: &[u8]) -> bool
+    ensures signs { result ≡ true → 0 < length signs.now }
+    ensures word { result ≡ true → 0 < length word.now }
+    ensures apart { result ≡ true → get_or word.now 0 0 ≢ get_or signs.now 0 0 }
+{
+    signs.len() >= 1 && word.len() >= 1 && word[0] != signs[0]
+}
+
 /// The symbol of this parent that the whole word spells, with nothing left out.
 fn read_as(parent: Parent, word: &[u8]) -> Result<SymbolTree, Fault>
     ensures { ReadsFull parent word.now result }
 {
-    let (primes, front) = read_signs(parent.text(), word)?;
+    let signs = parent.text();
+    if begin_apart(signs, word) {
+        return Err(Fault { place: 0 });
+    }
+    let (primes, front) = read_signs(signs, word)?;
     match read_ending(parent, primes == 0, &word[front..]) {
         Ok((grey, setting)) => Ok(SymbolTree {
             parent,

@@ -1,7 +1,7 @@
 -- Left cosets of a group of operations.
 use Rattle.std.proofs.Common.{List, subst, inl, inr}
 use Rattle.std.specs.Prelude.{Contains, ◌↔◌}
-use Rattle.tensor_defs.specs.Prelude.{Operation, IsProduct, identity, HaveCommonFrame, Times, InDouble}
+use Rattle.tensor_defs.specs.Prelude.{Operation, IsProduct, identity, HaveCommonFrame, Times}
 use Rattle.tensor_laws.proofs.Prelude.{product_unique, product_assoc}
 use Rattle.op_matrix.proofs.Listed.{plain_one, hex_one, OneTimes}
 use Rattle.magnetic_groups.specs.Sets.{HaveFrame, IsGroup, In, InverseIn}
@@ -65,10 +65,6 @@ pub coset_trans : (gs fs : List Operation) (r k l : Operation) → IsGroup gs �
 coset_trans gs fs r k l i j w c t u =
     let v : (x : Operation) × Contains fs x × IsProduct t.0 u.0 x = j.closed t.0 u.0 t.1 u.1 in
     (v.0, v.1, product_assoc r t.0 u.0 k l v.0 t.2 u.2 v.2)
-
--- ---- double cosets, for the pair classes
-abbrev pub Double : List Operation → Operation → Operation → Type 0
-Double fs g k = InDouble (λ s. Contains fs s) g k
 
 -- h·rF is the coset of h·r
 pub coset_moved : (gs fs : List Operation) (h r m k : Operation) → IsGroup gs →

@@ -3,43 +3,14 @@
 --   marked_has      the mark tells membership
 --   marked_within   marks among others
 --   marked_form     the matrices that are marked
-use Rattle.std.proofs.Common.{◌≡◌, ℕ, zero, suc, ◌+◌, ◌*◌, ◌<◌, ◌≤◌, Bool, true, false, cond, List, [], ◌∷◌, ◌++◌}
-use Rattle.std.proofs.Common.{length, refl, ap, sym, ◌∙◌, arith, subst, ◌⊎◌, inl, inr, add-one, take}
+use Rattle.std.proofs.Common.{◌≡◌, ℕ, ◌+◌, ◌*◌, ◌<◌, Bool, true, false, List}
+use Rattle.std.proofs.Common.{ap, sym, ◌∙◌, arith, subst, ◌⊎◌, inl, inr}
 use Rattle.std.specs.Prelude.{Contains, ◌↔◌, IsTrue}
-use Rattle.std.proofs.lemmas.List.{length-append, take_more, take_all}
 use Rattle.tensor_defs.specs.Operation.{Operation}
 use Rattle.op_matrix.specs.Table.{nth_operation, operation_at, place}
 use Rattle.op_matrix.proofs.Facts.{nth_at, place_of_nth}
-use Rattle.magnetic_groups.specs.Prelude.{AreWithin, mark_at, marked_below, unmarked, HasForm, In, IsWithin}
-use Rattle.magnetic_groups.proofs.Marked.{Below, contains_told, contains_of, marked_next, marked_past}
-
--- ---- how many operations are marked
-unmarked_push : (m : List Bool) (b : Bool) → unmarked (m ++ b ∷ []) ≡ unmarked m + cond b 0 1
-unmarked_push [] true = refl
-unmarked_push [] false = refl
-unmarked_push (true ∷ m) b = unmarked_push m b
-unmarked_push (false ∷ m) b = let e = unmarked_push m b in omega (arith, e)
-
-length_next : (n : ℕ) (m : List Bool) (b : Bool) → mark_at m n ≡ b →
-    length (marked_below (n + 1) m) + cond b 0 1 ≡ length (marked_below n m) + 1
-length_next n m true e =
-    let f = ap length (marked_next n m e) in
-    let l = length-append (marked_below n m) (nth_operation n ∷ []) in
-    omega (arith, f, l)
-length_next n m false e = let f = ap length (marked_past n m e) in omega (arith, f)
-
-count_below : (n : ℕ) (m : List Bool) → n ≤ length m → length (marked_below n m) + unmarked (take n m) ≡ n
-unfolding marked_below
-count_below zero m h = refl
-count_below (suc n) m h =
-    let r = count_below n m (omega arith) in
-    let t = ap unmarked (take_more m n false (omega arith)) ∙ unmarked_push (take n m) (mark_at m n) in
-    let l = length_next n m (mark_at m n) refl in
-    subst (λ k. length (marked_below k m) + unmarked (take k m) ≡ k) (add-one n) (omega (arith, r, t, l))
-
-pub marked_count : (m : List Bool) → length m ≡ 128 → length (marked_below 128 m) + unmarked m ≡ 128
-marked_count m e =
-    subst (λ x. length (marked_below 128 m) + unmarked x ≡ 128) (take_all 128 m (omega arith)) (count_below 128 m (omega arith))
+use Rattle.magnetic_groups.specs.Prelude.{AreWithin, mark_at, marked_below, HasForm, In, IsWithin}
+use Rattle.group_closing.proofs.Marked.{Below, contains_told, contains_of}
 
 -- ---- the mark tells membership
 told_at : (m : List Bool) (k : ℕ) → k < 128 → Contains (marked_below 128 m) (nth_operation k) → mark_at m k ≡ true

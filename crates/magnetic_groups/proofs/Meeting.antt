@@ -11,11 +11,11 @@ use Rattle.op_matrix.specs.Table.{nth_operation, place}
 use Rattle.op_matrix.proofs.Order.{placed}
 use Rattle.op_matrix.proofs.Listed.{plain_one, hex_one, OneTimes}
 use Rattle.magnetic_groups.specs.Prelude.{mark_at, marked_below, Reached, FitsFrame, HaveFrame, In, IsGroup}
-use Rattle.magnetic_groups.proofs.Inverses.{closed_inverse}
-use Rattle.magnetic_groups.proofs.Marked.{contains_told, contains_of, marked_rising, marked_first}
-use Rattle.magnetic_groups.proofs.Members.{member_framed}
-use Rattle.magnetic_groups.proofs.Spans.{common_product, place_is_zero, first_is}
-use Rattle.magnetic_groups.proofs.Reaching.{set_told, set_kept, set_new, no_mark}
+use Rattle.group_closing.proofs.Inverses.{closed_inverse}
+use Rattle.group_closing.proofs.Marked.{contains_told, contains_of, marked_rising, marked_first}
+use Rattle.group_closing.proofs.Spans.{member_framed}
+use Rattle.group_closing.proofs.Spans.{common_product, place_is_zero, first_is}
+use Rattle.group_closing.proofs.Reaching.{set_told, set_kept, set_new, no_mark}
 use Rattle.magnetic_groups.proofs.Cosets.{group_one}
 
 fits_one : (xs : List Operation) (g : Operation) → FitsFrame xs g → OneTimes g

@@ -23,8 +23,8 @@ use Rattle.op_matrix.proofs.Frames.{also, either, three_told, same_entry_true, p
 use Rattle.op_matrix.proofs.Products.{product_code, frame_code}
 use Rattle.op_matrix.proofs.Hexagonal.{implies, hex_told}
 use Rattle.magnetic_groups.specs.Sets.{In, HaveFrame, Spanned}
-use Rattle.magnetic_groups.proofs.Reaching.{spanned_times, spanned_plain, spanned_hex}
-use Rattle.magnetic_groups.proofs.Spans.{span_product, span_member}
+use Rattle.group_closing.proofs.Reaching.{spanned_times, spanned_plain, spanned_hex}
+use Rattle.group_closing.proofs.Spans.{span_product, span_member}
 
 -- ---- hexagonal, by a test
 abbrev SameEntries : Row → Row → Type 0

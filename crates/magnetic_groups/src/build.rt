@@ -8,7 +8,7 @@ ghost use Rattle.magnetic_groups.specs.Sets.{In};
 ghost use Rattle.magnetic_groups.specs.Laws.{AcceptedAreFramed};
 
 use crate::Group;
-use crate::closing::{close, copied};
+use crate::closing::close;
 use group_symbol::{SymbolTree, generators_of};
 use op_matrix::Op;
 use std::alloc::{AllocError, Global};
@@ -44,9 +44,7 @@ pub fn build_group(alloc: Global, tree: &SymbolTree) -> Result<Group, GroupFault
     ensures primes { result ≡ Err GroupFault.Primes → ¬ IsAccepted tree.now }
 {
     let grey = tree.is_grey();
-    let operators = generators_of(tree);
-    let generators = copied(alloc, operators.as_slice())?;
-    let group = close(alloc, generators)?;
+    let group = close(alloc, generators_of(tree))?;
     if !grey && group.has(&Op::reversal()) {
         return Err(GroupFault::Primes);
     }

@@ -1,12 +1,12 @@
 //! Groups by the marks of their elements alone.
 ghost use Rattle.std.specs.Prelude.{◌≡◌, ◌<◌, ◌↔◌, ℕ, IfOk, IsTrue, Contains, length};
 ghost use Rattle.std.specs.Int.{bit_at};
-ghost use Rattle.magnetic_groups.specs.Marks.{marked_below};
+ghost use Rattle.group_closing.specs.Marks.{marked_below};
 ghost use Rattle.magnetic_groups.specs.Sets.{HasForm, In, IsGroup, IsWithin};
 
 use crate::closing::of_marks;
-use crate::marks::Marks;
 use crate::{Group, NoMemory};
+use group_closing::Marks;
 use op_matrix::Op;
 use std::alloc::Global;
 use std::marker::Model;
@@ -20,7 +20,7 @@ pub struct GroupMarks {
 impl Model for GroupMarks {
     ghost use Rattle.std.specs.Prelude.{List};
     ghost use Rattle.tensor_defs.specs.Operation.{Operation};
-    ghost use Rattle.magnetic_groups.specs.Marks.{marked_below};
+    ghost use Rattle.group_closing.specs.Marks.{marked_below};
     ghost use Rattle.magnetic_groups.specs.Sets.{IsGroup};
 
     ghost Value = { List Operation };

@@ -21,7 +21,7 @@ use crate::pieces::{write_count, write_front, write_number};
 use answer_writers::{NoMemory, append_to};
 use coset_states::{StateFault, States, list_states};
 use group_symbol::{SymbolTree, write_group};
-use magnetic_groups::Group;
+use magnetic_groups::{Group, GroupMarks};
 use std::alloc::Global;
 use twin_pairs::{Members, PairClass, pair_classes};
 
@@ -61,7 +61,7 @@ fn write_name(name: &Option<SymbolTree>, out: &mut Vec<u8>) -> Result<(), NoMemo
 fn write_named(
     word: &str,
     name: &Option<SymbolTree>,
-    group: &Group,
+    group: &GroupMarks,
     out: &mut Vec<u8>,
 ) -> Result<(), NoMemory>
     ensures ok { OnOk result (out.new.items ≡ out.old.items ++ word.now ++ spaced (name_text name.now ∷ codes "order" ∷ decimal (length group.now) ∷ [])) }

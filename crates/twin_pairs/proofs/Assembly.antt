@@ -11,7 +11,7 @@ use Rattle.list_laws.proofs.Prelude.{rising_push, each_push, each_held, each_map
 use Rattle.tensor_defs.specs.Prelude.{Each, IsRising, IsListing, Operation, comes_before, GroupSymbol, IsNameOf, InDouble, IsState, IsSwappable, AreStates}
 use Rattle.tensor_defs.specs.Prelude.{InPairGroup, InTwinningGroup, PairClass, IsPairClass, ArePairClasses, least_before}
 use Rattle.magnetic_groups.specs.Prelude.{mark_at, In, IsGroup, IsWithin, HaveFrame, FitsFrame}
-use Rattle.magnetic_groups.proofs.Reaching.{no_mark, set_kept, set_new, set_told}
+use Rattle.group_closing.proofs.Reaching.{no_mark, set_kept, set_new, set_told}
 use Rattle.coset_states.specs.Numbering.{Cosets}
 use Rattle.twin_pairs.specs.Classes.{AreAdded, HasNoEarlier, AreMembers, IsClassFrom}
 use Rattle.twin_pairs.proofs.DoubleCosets.{double_sym, double_trans}

@@ -5,7 +5,7 @@
 use Rattle.std.proofs.Common.{◌≡◌, ℕ, ◌+◌, ◌⊎◌, inl, inr, ◌<◌, ◌≤◌, Bool, true, false, List, length, refl, ap, sym, ◌∙◌, arith, subst}
 use Rattle.std.specs.Prelude.{Contains, ◌↔◌, IsTrue, slice_index_or}
 use Rattle.std.proofs.lemmas.Bool.{cases_lt, false≢true}
-use Rattle.tensor_defs.specs.Prelude.{Operation, IsProduct, identity, Times, InDouble, IsState, IsSwappable}
+use Rattle.tensor_defs.specs.Prelude.{Operation, IsProduct, identity, Times, InDouble, IsSwappable}
 use Rattle.tensor_laws.proofs.Prelude.{product_unique, product_assoc, product_assoc_back}
 use Rattle.magnetic_groups.specs.Sets.{In, IsGroup, IsWithin, InverseIn}
 use Rattle.magnetic_groups.proofs.Cosets.{group_one, group_product, coset_self, coset_within, coset_sym, coset_trans, coset_moved}

@@ -4,7 +4,7 @@
 use Rattle.list_laws.proofs.Kit.{◌≡◌, ℕ, zero, suc, ◌+◌, ◌-◌, ◌⊎◌, inl, inr, ◌<◌, ◌≤◌, min, Bool, true, false, List, [], ◌∷◌, ◌++◌, length, refl, ap, sym}
 use Rattle.list_laws.proofs.Kit.{◌∙◌, arith, subst, nat_tests, slice_get_within, Contains-append_left, Contains-push, Contains-push_cases, cases_lt}
 use Rattle.list_laws.proofs.Kit.{false≢true}
-use Rattle.std.specs.Prelude.{Contains, ◌↔◌, IsTrue, Some, None, nat_lt}
+use Rattle.std.specs.Prelude.{Contains, ◌↔◌, IsTrue, Some, nat_lt}
 use Rattle.list_laws.proofs.Prelude.{rising_push, each_push, each_held, each_map, each_found}
 use Rattle.tensor_defs.specs.Prelude.{Each, IsRising, Operation, InDouble, IsState, AreStates}
 use Rattle.magnetic_groups.specs.Prelude.{mark_at, In, IsGroup, IsWithin}

@@ -4,13 +4,13 @@
 --   marking_done    all of them
 use Rattle.list_laws.proofs.Kit.{◌≡◌, ℕ, ◌+◌, ◌⊎◌, inl, inr, ◌<◌, ◌≤◌, Bool, true, false, List, length, ap, sym, ◌∙◌, arith, subst, nat_tests, cases_lt}
 use Rattle.list_laws.proofs.Kit.{length-set}
-use Rattle.std.specs.Prelude.{Contains, ◌↔◌, replicate, set, slice_index_or, Some}
+use Rattle.std.specs.Prelude.{Contains, replicate, set, slice_index_or, Some}
 use Rattle.std.specs.Ordering.{ord_max}
 use Rattle.std.proofs.Common.{nat_cmp}
 use Rattle.tensor_defs.specs.Prelude.{Operation, IsProduct, AreStates, InDouble, IsState, Times}
-use Rattle.tensor_laws.proofs.Prelude.{product_unique, one_state}
+use Rattle.tensor_laws.proofs.Prelude.{one_state}
 use Rattle.magnetic_groups.specs.Prelude.{mark_at, In, IsGroup, IsWithin}
-use Rattle.magnetic_groups.proofs.Reaching.{no_mark, set_kept, set_new, set_told}
+use Rattle.group_closing.proofs.Reaching.{no_mark, set_kept, set_new, set_told}
 use Rattle.coset_states.specs.Numbering.{Cosets, TellsState}
 use Rattle.twin_pairs.specs.Classes.{AreMarked, IsLast}
 use Rattle.twin_pairs.proofs.DoubleCosets.{double_from, double_told}

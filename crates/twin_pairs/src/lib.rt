@@ -16,9 +16,9 @@ ghost use Rattle.twin_pairs.specs.Classes.{AreAdded, AreMarked, AreMembers, HasN
 mod tests;
 
 use coset_states::States;
-use group_names::name_of;
+use group_names::first_name;
 use group_symbol::SymbolTree;
-use magnetic_groups::Group;
+use magnetic_groups::{Group, GroupMarks};
 use op_matrix::Op;
 use std::alloc::{AllocError, Global};
 use std::marker::Model;
@@ -29,18 +29,6 @@ pub struct NoMemory;
 
 impl From<AllocError> for NoMemory {
     fn from(_: AllocError) -> NoMemory {
-        NoMemory
-    }
-}
-
-impl From<magnetic_groups::NoMemory> for NoMemory {
-    fn from(_: magnetic_groups::NoMemory) -> NoMemory {
-        NoMemory
-    }
-}
-
-impl From<group_names::NoMemory> for NoMemory {
-    fn from(_: group_names::NoMemory) -> NoMemory {
         NoMemory
     }
 }
@@ -84,11 +72,11 @@ pub struct PairClass {
     /// Whether an element of the whole group exchanges the two states.
     pub swappable: bool,
     /// The elements that keep both states.
-    pub pair_group: Group,
+    pub pair_group: GroupMarks,
     /// Its name.
     pub pair_name: Option<SymbolTree>,
     /// The group that the subgroup and the least state's representative generate.
-    pub twin_group: Group,
+    pub twin_group: GroupMarks,
     /// Its name.
     pub twin_name: Option<SymbolTree>,
 }
@@ -149,7 +137,7 @@ fn list_members(
     ensures { IfOk result (AreMembers states.now element.now k) }
 {
     let Marked { marks, last } = mark_states(states, element);
-    let mut numbers = Vec::new(alloc);
+    let mut numbers = Vec::with_capacity(alloc, states.sub().len())?;
     numbers.push(k)?;
     for place in k..last.min(states.count()) {
         if marks[place + 1] {
@@ -192,19 +180,18 @@ fn is_swappable(states: &States, element: &Op) -> bool
 
 /// The name of a pair group. Where it is the whole subgroup, its name is known.
 fn pair_name(
-    alloc: Global,
-    sub: &Group,
+    sub: &GroupMarks,
     sub_name: &Option<SymbolTree>,
-    pair_group: &Group,
-) -> Result<Option<SymbolTree>, NoMemory>
+    pair_group: &GroupMarks,
+) -> Option<SymbolTree>
     requires named { IsNameOf sub_name.now (In sub.now) }
     requires below { IsWithin pair_group.now sub.now }
-    ensures { IfOk result (λ o. IsNameOf o (In pair_group.now)) }
+    ensures { IsNameOf result (In pair_group.now) }
 {
     if sub.is_subset(pair_group) {
-        return Ok(*sub_name);
+        return *sub_name;
     }
-    Ok(name_of(alloc, pair_group)?)
+    first_name(pair_group)
 }
 
 /// The class of the state `k`, the least of its class.
@@ -227,10 +214,10 @@ fn pair_class(
     let members = list_members(alloc, states, element, k)?;
     let swappable = is_swappable(states, element);
     let sub = states.sub();
-    let pair_group = sub.meet_conjugate(alloc, element)?;
-    let pair_name = pair_name(alloc, sub, sub_name, &pair_group)?;
-    let twin_group = sub.joined(alloc, element)?;
-    let twin_name = name_of(alloc, &twin_group)?;
+    let pair_group = sub.conjugate_marks(element);
+    let pair_name = pair_name(&sub.marks(), sub_name, &pair_group);
+    let twin_group = sub.joined_marks(element);
+    let twin_name = first_name(&twin_group);
     Ok(PairClass {
         members,
         swappable,
@@ -253,7 +240,7 @@ fn append(classes: &mut Vec<PairClass>, class: PairClass) -> Result<(), AllocErr
 pub fn pair_classes(alloc: Global, states: &States) -> Result<Vec<PairClass>, NoMemory>
     ensures { IfOk result (λ v. ArePairClasses (In states.now.whole) (In states.now.sub) states.now.reps (map class_of v.items)) }
 {
-    let sub_name = name_of(alloc, states.sub())?;
+    let sub_name = first_name(&states.sub().marks());
     let mut classes = Vec::with_capacity(alloc, states.count())?;
     let mut seen = [false; 129];
     for place in 0..states.count() {

@@ -1,5 +1,5 @@
 use Rattle.std.proofs.Common.{arith, refl}
-use Rattle.magnetic_groups.proofs.Spans.{inside_more, inside_all}
+use Rattle.magnetic_groups.proofs.Members.{inside_more, inside_all}
 use Rattle.group_names.proofs.Names.{outside_told, all_told}
 use Rattle.group_names.proofs.holds_all.Goals as goal
 

@@ -1,4 +1,4 @@
-use Rattle.std.proofs.Common.{◌≡◌, Bool, ℕ, true, arith, sym, subst}
+use Rattle.std.proofs.Common.{◌≡◌, ℕ, true, arith, sym, subst}
 use Rattle.tensor_defs.specs.declared.Setting.{Setting}
 use Rattle.tensor_defs.specs.Symbols.{takes_setting}
 use Rattle.magnetic_groups.specs.Sets.{In}

@@ -1,4 +1,4 @@
-use Rattle.std.proofs.Common.{true, false, [], ◌∷◌, ◌^◌, ◌-◌}
+use Rattle.std.proofs.Common.{true, false, [], ◌∷◌}
 use Rattle.std.specs.Prelude.{Some, None}
 use Rattle.magnetic_groups.specs.Sets.{In}
 use Rattle.group_symbol.specs.Readings.{symbol_of}

@@ -1,11 +1,11 @@
-use Rattle.std.proofs.Common.{◌<◌, ◌+◌, [], ◌∷◌, ◌++◌, length, ◌∙◌, ap, subst, arith}
-use Rattle.magnetic_groups.specs.Marks.{mark_at}
+use Rattle.std.proofs.Common.{◌<◌, ◌+◌, [], ◌∷◌, ◌++◌, length, ◌∙◌, ap, arith}
+use Rattle.group_closing.specs.Marks.{mark_at}
 use Rattle.twin_pairs.proofs.list_members.Goals.{then-marks-place+in_ok-push-2, else-marks-place}
 use Rattle.twin_pairs.proofs.Listings.{listed_one, listed_push, listed_skip, listed_done}
 use Rattle.twin_pairs.proofs.list_members.Goals as goal
 
 pub loop-place-init : goal.loop-place-init
-loop-place-init c = λ i j w a. listed_one c.args.states.now c.args.element.now i j w a c.args.k c.push.new.self.items (c.in_ok-push.ensures.items ∙ ap (λ xs. xs ++ c.args.k ∷ []) c.new-numbers.ensures.items) c.requires.least c.requires.inside c.requires.first
+loop-place-init c = λ i j w a. listed_one c.args.states.now c.args.element.now i j w a c.args.k c.push.new.self.items (c.in_ok-push.ensures.items ∙ ap (λ xs. xs ++ c.args.k ∷ []) c.in_ok-numbers.ensures.items) c.requires.least c.requires.inside c.requires.first
 
 pub loop-place-preserved : goal.loop-place-preserved
 loop-place-preserved c = λ i j w a. elim c.if-marks-place.branch [

@@ -2,7 +2,7 @@ use Rattle.std.proofs.Common.{◌+◌, refl, sym, subst, arith}
 use Rattle.tensor_defs.specs.Prelude.{IsListing, comes_before, InPairGroup}
 use Rattle.op_matrix.specs.Table.{place}
 use Rattle.op_matrix.proofs.Order.{placed}
-use Rattle.magnetic_groups.proofs.Members.{member_framed}
+use Rattle.group_closing.proofs.Spans.{member_framed}
 use Rattle.magnetic_groups.specs.Sets.{In}
 use Rattle.magnetic_groups.proofs.Meeting.{IsMeeting, meeting_none, meeting_skip, meeting_more, met_group, met_listing, inverse_common, half_common, pair_told}
 use Rattle.magnetic_groups.proofs.Group.conjugate_marks.Goals as goal

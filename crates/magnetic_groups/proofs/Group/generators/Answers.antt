@@ -1,19 +1,19 @@
-use Rattle.std.proofs.Common.{◌∙◌}
-use Rattle.magnetic_groups.proofs.Taking.{all_meant, generators_told, held_meant}
+use Rattle.std.proofs.Common.{◌∙◌, ap, sym}
+use Rattle.magnetic_groups.specs.Sets.{generators_of}
+use Rattle.magnetic_groups.proofs.Held.{generators_told}
 use Rattle.magnetic_groups.proofs.Group.generators.Goals as goal
 
-pub returns-then-is_empty : goal.returns-then-is_empty
-returns-then-is_empty c =
-    let held = c.self.inside.generators.items in
-    let items = c.self.inside.elements.items in
-    let told = generators_told held c.deref.result.now items c.args.self.now c.self.inside.marks c.self.invariant c.self.view_is
-    (c.deref.ensures.value ∙ all_meant held c.deref-held.result.now items c.is_empty.result c.deref-held.ensures.value c.is_empty.ensures c.if-is_empty.true) in
-    record { elements = told.0; spanned = told.1 }
+pub returns-in-Some-clause-elements : goal.returns-in-Some-clause-elements
+returns-in-Some-clause-elements c =
+    (generators_told c.self.inside.generators c.as_slice.result.now c.self.inside.elements.items c.args.self.now c.self.inside.marks c.self.invariant c.self.view_is
+    (c.as_slice.ensures.value ∙ sym (ap (λ o. generators_of o c.self.inside.elements.items) c.in-Some.is))).0
 
-pub returns : goal.returns
-returns c =
-    let held = c.self.inside.generators.items in
-    let items = c.self.inside.elements.items in
-    let told = generators_told held c.deref-held.result.now items c.args.self.now c.self.inside.marks c.self.invariant c.self.view_is
-    (c.deref-held.ensures.value ∙ held_meant held c.deref-held.result.now items c.is_empty.result c.deref-held.ensures.value c.is_empty.ensures c.if-is_empty.false) in
-    record { elements = told.0; spanned = told.1 }
+pub returns-in-Some-clause-spanned : goal.returns-in-Some-clause-spanned
+returns-in-Some-clause-spanned c =
+    (generators_told c.self.inside.generators c.as_slice.result.now c.self.inside.elements.items c.args.self.now c.self.inside.marks c.self.invariant c.self.view_is
+    (c.as_slice.ensures.value ∙ sym (ap (λ o. generators_of o c.self.inside.elements.items) c.in-Some.is))).1
+
+pub returns-in-None-clause-spanned : goal.returns-in-None-clause-spanned
+returns-in-None-clause-spanned c =
+    (generators_told c.self.inside.generators c.deref.result.now c.self.inside.elements.items c.args.self.now c.self.inside.marks c.self.invariant c.self.view_is
+    (c.deref.ensures.value ∙ sym (ap (λ o. generators_of o c.self.inside.elements.items) c.in-None.is))).1

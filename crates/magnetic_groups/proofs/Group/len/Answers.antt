@@ -7,4 +7,4 @@ pub returns-clause-few : goal.returns-clause-few
 returns-clause-few c =
     let e : c.len.result ≡ length c.self.inside.elements.items = search rules in
     subst (λ n. n ≤ 128) (sym e)
-    (kept_length (generators_of c.self.inside.generators.items c.self.inside.elements.items) c.self.inside.elements.items c.self.inside.marks c.self.invariant)
+    (kept_length (generators_of c.self.inside.generators c.self.inside.elements.items) c.self.inside.elements.items c.self.inside.marks c.self.invariant)

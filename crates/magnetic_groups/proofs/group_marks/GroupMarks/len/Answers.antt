@@ -1,5 +1,5 @@
 use Rattle.std.proofs.Common.{length, arith, ap}
-use Rattle.magnetic_groups.proofs.MarkedGroups.{marked_count}
+use Rattle.group_closing.proofs.Marked.{marked_count}
 use Rattle.magnetic_groups.proofs.group_marks.GroupMarks.len.Goals as goal
 
 pub returns-clause-is : goal.returns-clause-is

@@ -1,0 +1,8 @@
+pub mod Reaching
+pub mod Marked
+pub mod Inverses
+pub mod Spans
+mod Digits
+mod Doubling
+mod Taking
+mod CosetClosing

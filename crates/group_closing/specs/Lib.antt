@@ -1,0 +1,5 @@
+pub mod Marks
+pub mod Sets
+pub mod Joining
+pub mod Greedy
+pub mod Prelude

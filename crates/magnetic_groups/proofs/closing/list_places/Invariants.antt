@@ -1,6 +1,0 @@
-use Rattle.std.proofs.Common.{◌≡◌}
-use Rattle.magnetic_groups.specs.Marks.{marked_below}
-use Rattle.magnetic_groups.proofs.closing.list_places.Given as goal
-
-abbrev pub invariant-loop-place : goal.invariant-loop-place
-invariant-loop-place l = l.elements.items ≡ marked_below l.place l.marks
