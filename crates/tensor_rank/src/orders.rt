@@ -107,6 +107,7 @@ fn index_precedes<R: Rank>(a: Comp<R>, b: Comp<R>) -> bool
 }
 
 /// The number that those of the blocks of a component spell in base 7.
+#[inline(never)]
 fn spelled_by<R: Rank>(sizes: &[u8], c: Comp<R>) -> u32
     requires { AreBlocks R.R sizes.now }
     ensures { result ≡ spell 0 (block_numbers sizes.now (index_of R.R c)) }
@@ -162,24 +163,19 @@ fn spelled_at<R: Rank>(sizes: &[u8], spelled: &[u8], c: Comp<R>) -> u32
     spelled_by(sizes, c)
 }
 
-/// What decides between components in the order of blocks: what the numbers of the blocks spell, and behind it the
-/// component's own number.
-fn key_at<R: Rank>(sizes: &[u8], spelled: &[u8], c: Comp<R>) -> u64
-    requires blocks { AreBlocks R.R sizes.now }
-    requires spelled { AreSpelled R.R sizes.now spelled.now }
-    ensures is { result ≡ 1024 * spell 0 (block_numbers sizes.now (index_of R.R c)) + c }
-    ensures component { c < R.LEN }
-{
-    1024 * u64::from(spelled_at(sizes, spelled, c)) + u64::from(c.number())
-}
-
-/// Whether a component comes before another in the order of blocks.
+/// Whether a component comes before another in the order of blocks: by what the numbers of their blocks spell, and where
+/// it agrees by the index digits.
 fn blocks_precede<R: Rank>(sizes: &[u8], spelled: &[u8], a: Comp<R>, b: Comp<R>) -> bool
     requires blocks { AreBlocks R.R sizes.now }
     requires spelled { AreSpelled R.R sizes.now spelled.now }
     ensures { result ≡ block_before sizes.now (index_of R.R a) (index_of R.R b) }
 {
-    key_at(sizes, spelled, a) < key_at(sizes, spelled, b)
+    let one = spelled_at(sizes, spelled, a);
+    let other = spelled_at(sizes, spelled, b);
+    if one == other {
+        return index_precedes(a, b);
+    }
+    one < other
 }
 
 impl<R: Rank> Order<R> {
@@ -231,6 +227,7 @@ impl<R: Rank> Order<R> {
     }
 
     /// Whether a component comes before another.
+    #[inline(always)]
     pub fn before(&self, a: Comp<R>, b: Comp<R>) -> bool
         ensures { result ≡ before_of self.now (index_of R.R a) (index_of R.R b) }
     {
@@ -253,6 +250,7 @@ impl<R: Rank> Precedence for Order<R> {
 
     ghost order = { λ o. before_at R.R o };
 
+    #[inline(always)]
     fn precedes(&self, one: usize, other: usize) -> bool {
         self.before(Comp::at(one), Comp::at(other))
     }
