@@ -4,6 +4,7 @@
 --   number_told     the number of the entry of a number
 --   component_told  the component of the entry of a number
 --   entry_told      the block numbers of a component are those of the entry to which it belongs
+--   shears_told     the shear pairs of a component are those of the entry to which it belongs
 --   small_shift     the weight of an entry is 1, 2 or 4
 --   blocks_are      the blocks are together the indices of a rank
 use Rattle.list_laws.proofs.Kit.{◌≡◌, ℕ, zero, suc, ◌+◌, ◌^◌, ◌<◌, ◌≤◌, Bool, true, false, cond, nat_eq, nat_lt, List, [], ◌∷◌, ◌++◌, length, refl, ap, sym}
@@ -16,7 +17,7 @@ use Rattle.tensor_rank.specs.Orders.{AreBlocks}
 use Rattle.list_laws.proofs.Tests.{both, same_numbers_told}
 use Rattle.voigt_table.specs.declared.entries.Blocks.{Blocks}
 use Rattle.voigt_table.specs.declared.entries.Blocks.TheVariants.{Pair, VectorPair, PairVector, TwoPairs}
-use Rattle.voigt_table.specs.Blocks.{component_at, entry_at, entry_count, entry_number, entry_of, sizes_of}
+use Rattle.voigt_table.specs.Blocks.{component_at, entry_at, entry_count, entry_number, entry_of, shears_at, sizes_of}
 
 -- ---- tests of all numbers below an end
 abbrev pub all_below : (ℕ → Bool) → ℕ → Bool
@@ -134,6 +135,20 @@ entry_told b c l =
     same_numbers_told _ _ (all_told (has_entry_of b) (3 ^ rank_of_blocks (sizes_of b)) (entries_checked b) c l)
 
 -- ---- weights
+abbrev has_shears : Blocks → ℕ → Bool
+has_shears b c = nat_eq (shears_at b c) (shift Shear (entry_at (sizes_of b) (entry_of b c)))
+
+shears_checked : (b : Blocks) → all_below (has_shears b) (3 ^ rank_of_blocks (sizes_of b)) ≡ true
+shears_checked Pair = refl
+shears_checked VectorPair = refl
+shears_checked PairVector = refl
+shears_checked TwoPairs = refl
+
+pub shears_told : (b : Blocks) (c : ℕ) → c < 3 ^ rank_of_blocks (sizes_of b) →
+    shears_at b c ≡ shift Shear (entry_at (sizes_of b) (entry_of b c))
+shears_told b c l =
+    eqb-true _ _ (all_told (has_shears b) (3 ^ rank_of_blocks (sizes_of b)) (shears_checked b) c l)
+
 one_at_most : (t : Bool) → cond t 1 0 ≤ 1
 one_at_most true = omega arith
 one_at_most false = omega arith

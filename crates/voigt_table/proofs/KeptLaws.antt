@@ -1,5 +1,6 @@
 -- What is kept of a component table: free components, and the rows of all components.
---   small_component, small_entry, apart    the components of entries, and the entries of components
+--   small_component, small_entry, back, apart    the components of entries, and the entries of components
+--   listed_component    the component at a place of the list of them
 --   kept_row, kept_free    what is kept tells the rows and the free entries of a Voigt table
 --   kept_whole      it is one
 --   plain_weighed   with plain weights nothing changes
@@ -57,11 +58,15 @@ entries_back VectorPair = refl
 entries_back PairVector = refl
 entries_back TwoPairs = refl
 
-back : (b : Blocks) (k : ℕ) → k < entry_count (sizes_of b) → entry_of b (component_at b k) ≡ k
+pub back : (b : Blocks) (k : ℕ) → k < entry_count (sizes_of b) → entry_of b (component_at b k) ≡ k
 back b k l = eqb-true _ _ (all_told _ (entry_count (sizes_of b)) (entries_back b) k l)
 
 pub apart : (b : Blocks) (i k : ℕ) → i < entry_count (sizes_of b) → k < entry_count (sizes_of b) → component_at b i ≡ component_at b k → i ≡ k
 apart b i k l m e = sym (back b i l) ∙ ap (entry_of b) e ∙ back b k m
+
+pub listed_component : (b : Blocks) (k d : ℕ) → k < entry_count (sizes_of b) →
+    get_or (map (component_at b) (range_with_len 0 (entry_count (sizes_of b)))) k d ≡ component_at b k
+listed_component b k d l = get_or-map-range_with_len (component_at b) 0 (entry_count (sizes_of b)) k k d l (omega arith)
 
 -- ---- what is kept
 pub kept_row : (b : Blocks) (rows : List (List Term)) (k : ℕ) → k < entry_count (sizes_of b) →
