@@ -34,6 +34,7 @@ fn place_for<R: Rank>(free: &[u16], order: &Order<R>, c: usize, near: usize) -> 
 }
 
 /// Puts a component at a place among free ones.
+#[inline(always)]
 fn put_free(free: &mut Vec<u16>, place: usize, c: u16) -> Result<(), NoMemory>
     requires { place ≤ length free.old.items }
     ensures { OnOk result (free.new.items ≡ insert free.old.items place c) }
