@@ -64,7 +64,7 @@ fn told_rows<R: Rank>(
 {
     let mut rows = Vec::with_capacity(alloc, R::LEN)?;
     for c in 0..R::LEN {
-        rows.push(row_of_class(alloc, classes, places, told, c)?)?;
+        rows.push_reserved(row_of_class(alloc, classes, places, told, c)?);
     }
     Ok(rows)
 }

@@ -1,5 +1,6 @@
 //! The free components, and their places.
 ghost use Rattle.std.specs.Prelude.{◌≡◌, ℕ, ◌+◌, ◌<◌, ◌≤◌, IfOk, OnOk, length, true, false};
+ghost use Rattle.std.specs.List.{insert};
 ghost use Rattle.sign_moves.specs.Firsts.{AreSettled};
 ghost use Rattle.tensor_rank.specs.Orders.{before_at};
 ghost use Rattle.reduced_form.specs.Forms.{ArePlaces, IsFreeUpTo, free_at};
@@ -32,6 +33,20 @@ fn place_for<R: Rank>(free: &[u16], order: &Order<R>, c: usize, near: usize) -> 
     place
 }
 
+/// Puts a component at a place among free ones.
+#[inline(always)]
+fn put_free(free: &mut Vec<u16>, place: usize, c: u16) -> Result<(), NoMemory>
+    requires { place ≤ length free.old.items }
+    ensures { OnOk result (free.new.items ≡ insert free.old.items place c) }
+{
+    if place == free.len() {
+        free.push(c)?;
+        return Ok(());
+    }
+    free.insert(place, c)?;
+    Ok(())
+}
+
 /// Takes a component among the free ones where it is the first of a class that doesn't vanish: near the place behind the
 /// one that was taken last, which it tells anew.
 fn take_free<R: Rank>(
@@ -50,7 +65,7 @@ fn take_free<R: Rank>(
     if let Some((first, _)) = classes.of(Comp::at(c)) {
         if first.number() as usize == c {
             let place = place_for(free, order, c, near);
-            free.insert(place, c as u16)?;
+            put_free(free, place, c as u16)?;
             return Ok(place + 1);
         }
     }
@@ -82,7 +97,7 @@ pub fn places_of<R: Rank>(alloc: Global, free: &[u16]) -> Result<Vec<u16>, NoMem
 {
     let mut places = Vec::with_capacity(alloc, R::LEN)?;
     for _ in 0..R::LEN {
-        places.push(0)?;
+        places.push_reserved(0);
     }
     for k in 0..free.len() {
         places[free[k] as usize] = k as u16;

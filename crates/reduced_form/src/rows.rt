@@ -55,7 +55,7 @@ pub fn rows_of<R: Rank>(
 {
     let mut rows = Vec::with_capacity(alloc, R::LEN)?;
     for c in 0..R::LEN {
-        rows.push(row_of(alloc, classes, places, c))?;
+        rows.push_reserved(row_of(alloc, classes, places, c));
     }
     Ok(rows)
 }

@@ -36,7 +36,7 @@ fn no_tellers(alloc: Global, unknowns: usize) -> Result<Vec<Option<usize>>, NoMe
 {
     let mut tellers = Vec::with_capacity(alloc, unknowns)?;
     for _ in 0..unknowns {
-        tellers.push(None)?;
+        tellers.push_reserved(None);
     }
     Ok(tellers)
 }
@@ -71,7 +71,7 @@ pub fn free_numbers(
     let mut free = Vec::with_capacity(alloc, unknowns.len())?;
     let mut numbers = Vec::with_capacity(alloc, unknowns.len())?;
     for place in 0..unknowns.len() {
-        numbers.push(free.len() as u16)?;
+        numbers.push_reserved(free.len() as u16);
         if tellers[place].is_none() {
             free.push(unknowns[place])?;
         }

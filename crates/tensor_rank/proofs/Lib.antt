@@ -1,5 +1,5 @@
 pub mod OrderLaws
-mod SpelledTables
+mod PlacedTables
 pub mod ExchangeLaws
 pub mod ExchangeRowLaws
 pub mod ExchangeIndex

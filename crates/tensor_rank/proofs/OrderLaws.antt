@@ -1,7 +1,8 @@
 -- Orders by the index digits and by blocks.
 --   numbers_tell, index_order_at    index order is the order of component numbers
 --   blocks_next, blocks_before    blocks from a place on
---   spell_next, spell_below, below_sixth, keys_tell, spelled_order    block order is the order of what block numbers spell
+--   spell_next, spell_below, below_sixth, spelled_order    block order is the order of what block numbers spell
+--   spelled_same, spelled_apart    where two spell the same; where they don't
 --   front_one, front_two, pair_same, pair_other, by_index    the number of one block
 use Rattle.list_laws.proofs.Kit.{◌≡◌, ◌≢◌, ℕ, zero, suc, ◌+◌, ◌-◌, ◌*◌, ◌^◌, ◌<◌, ◌≤◌, Bool, true, false, lit<, List, [], ◌∷◌, ◌++◌, length, get_or, drop}
 use Rattle.list_laws.proofs.Kit.{drop-cons, add-one, map, refl, ap, sym, ◌∙◌, arith, subst, inl, inr, cases_lt, lt-ltb, le-ltb, nat_tests, drop_more}
@@ -199,8 +200,11 @@ spelled_less x y rest h = grind (arith, nat_tests)
 spelled_more : (x y : ℕ) (rest : Bool) → y < x → spelled_before x y rest ≡ false
 spelled_more x y rest h = grind (arith, nat_tests)
 
-spelled_same : (x y : ℕ) (rest : Bool) → x ≡ y → spelled_before x y rest ≡ rest
+pub spelled_same : (x y : ℕ) (rest : Bool) → x ≡ y → spelled_before x y rest ≡ rest
 spelled_same x y rest h = grind (arith, nat_tests)
+
+pub spelled_apart : (x y : ℕ) (rest : Bool) → x ≢ y → spelled_before x y rest ≡ nat_lt x y
+spelled_apart x y rest h = grind (arith, nat_tests)
 
 spell_tells : (ps qs : List ℕ) (x : ℕ) (a b : List ℕ) → length ps ≡ length qs → Each (λ n. n ≤ 6) ps → Each (λ n. n ≤ 6) qs →
     lexicographic (ps ++ a) (qs ++ b) ≡ spelled_before (spell x ps) (spell x qs) (lexicographic a b)
@@ -231,18 +235,6 @@ spelled_order r bs is js fit li lj =
     (numbers_count bs is (omega (arith, t, li)) fit.0 ∙ sym (numbers_count bs js (omega (arith, t, lj)) fit.0))
     (numbers_small bs is) (numbers_small bs js)
     ∙ ap (spelled_before (spell 0 (block_numbers bs is)) (spell 0 (block_numbers bs js))) (digits_tell is js (li ∙ sym lj))
-
--- what is spelled with a number behind it
-pub keys_tell : (x y a b : ℕ) → a < 1024 → b < 1024 → nat_lt (1024 * x + a) (1024 * y + b) ≡ spelled_before x y (nat_lt a b)
-keys_tell x y a b h l = elim (cases_lt x y) as (λ _. nat_lt (1024 * x + a) (1024 * y + b) ≡ spelled_before x y (nat_lt a b)) [
-  | inl p ↦ lt-ltb _ _ (omega (arith, p, h, l)) ∙ sym (spelled_less x y (nat_lt a b) p)
-  | inr p ↦ elim (cases_lt y x) as (λ _. nat_lt (1024 * x + a) (1024 * y + b) ≡ spelled_before x y (nat_lt a b)) [
-    | inl q ↦ le-ltb _ _ (omega (arith, q, h, l)) ∙ sym (spelled_more x y (nat_lt a b) q)
-    | inr q ↦
-        let same : x ≡ y = omega arith in
-        ap (λ z. nat_lt (1024 * z + a) (1024 * y + b)) same ∙ lt_add (1024 * y) a b ∙ sym (spelled_same x y (nat_lt a b) same)
-  ]
-]
 
 -- ---- the number of one block
 pub front_one : (is : Index) (s : ℕ) → s < length is → front_number 1 (drop s is) ≡ digit (nth is s)

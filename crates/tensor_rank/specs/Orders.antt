@@ -8,10 +8,10 @@
 --   front_number    the number of the first block of an index list
 --   pair_of         a pair number from two digits
 --   spell           the number that digits spell in base 7 behind a number
---   AreSpelled      for the first components what the numbers of their blocks spell
+--   ArePlaced       each two of the first components are ordered as their places
 --   spelled_before  what is spelled decides, and where it agrees something else
 use Rattle.std.specs.Prelude.{◌≡◌, ℕ, zero, suc, ◌+◌, ◌-◌, ◌*◌, ◌<◌, ◌≤◌, nat_eq, nat_lt, Bool, true, false, List, [], ◌∷◌, cond, get_or, length}
-use Rattle.tensor_defs.specs.Prelude.{Each, index_before, block_before, block_numbers, pair_number, IsOrder, Index, digit, index_of}
+use Rattle.tensor_defs.specs.Prelude.{Each, index_before, block_before, pair_number, IsOrder, Index, digit, index_of}
 
 pub data Ordering : Type 0 where
   ByIndex : Ordering
@@ -53,8 +53,9 @@ abbrev pub spell : ℕ → List ℕ → ℕ
 spell x [] = x
 spell x (p ∷ ps) = spell (7 * x + p) ps
 
-abbrev pub AreSpelled : ℕ → List ℕ → List ℕ → Type 0
-AreSpelled r bs xs = (c : ℕ) → c < length xs → get_or xs c 0 ≡ spell 0 (block_numbers bs (index_of r c))
+abbrev pub ArePlaced : ℕ → List ℕ → List ℕ → Type 0
+ArePlaced r bs xs = (a b : ℕ) → a < length xs → b < length xs →
+    nat_lt (get_or xs a 0) (get_or xs b 0) ≡ block_before bs (index_of r a) (index_of r b)
 
 abbrev pub spelled_before : ℕ → ℕ → Bool → Bool
 spelled_before x y rest = cond (nat_lt x y) true (cond (nat_lt y x) false rest)

@@ -2,7 +2,7 @@
 ghost use Rattle.std.specs.Prelude.{◌≡◌, ℕ, ◌+◌, ◌*◌, ◌<◌, ◌≤◌, ◌↔◌, IsNone, IfSome, [], ◌∷◌, drop};
 ghost use Rattle.tensor_defs.specs.Orders.{block_before, block_numbers, index_before};
 ghost use Rattle.tensor_defs.specs.Tensor.{index_of};
-ghost use Rattle.tensor_rank.specs.Orders.{AreBlocks, AreSpelled, ByBlocks, ByIndex, IsBlock, before_of, front_number, is_by_index, spell};
+ghost use Rattle.tensor_rank.specs.Orders.{AreBlocks, ArePlaced, ByBlocks, ByIndex, IsBlock, before_of, front_number, is_by_index, spell};
 
 use crate::components::Comp;
 use crate::ranks::Rank;
@@ -14,51 +14,51 @@ use std::marker::{Model, PhantomData};
 enum Kind {
     /// The index digits, the first index first.
     Index,
-    /// The numbers of blocks of one or two indices, and where all agree the index digits. For the components below some
-    /// number what those of their blocks spell in base 7.
+    /// The numbers of blocks of one or two indices, and where all agree the index digits. Where they are known, the places
+    /// of all components in this order.
     Blocks {
         sizes: [u8; 6],
         count: usize,
-        spelled: &'static [u8],
+        places: &'static [u8],
     },
 }
 
-/// What the number of a pair spells for each component of rank 2.
+/// The place of each component of rank 2 in the order of one pair.
 #[rattlefmt::skip]
 const PAIR: [u8; 9] = [
-    1, 6, 5,
-    6, 2, 4,
-    5, 4, 3,
+    0, 7, 5,
+    8, 1, 3,
+    6, 4, 2,
 ];
 
-/// What the numbers of a single index and a pair spell for each component of rank 3.
+/// The place of each component of rank 3 in the order of a single index and a pair.
 #[rattlefmt::skip]
 const VECTOR_PAIR: [u8; 27] = [
-    8, 13, 12,  13, 9, 11,  12, 11, 10,
-    15, 20, 19,  20, 16, 18,  19, 18, 17,
-    22, 27, 26,  27, 23, 25,  26, 25, 24,
+    0, 7, 5,  8, 1, 3,  6, 4, 2,
+    9, 16, 14,  17, 10, 12,  15, 13, 11,
+    18, 25, 23,  26, 19, 21,  24, 22, 20,
 ];
 
-/// What the numbers of a pair and a single index spell for each component of rank 3.
+/// The place of each component of rank 3 in the order of a pair and a single index.
 #[rattlefmt::skip]
 const PAIR_VECTOR: [u8; 27] = [
-    8, 9, 10,  43, 44, 45,  36, 37, 38,
-    43, 44, 45,  15, 16, 17,  29, 30, 31,
-    36, 37, 38,  29, 30, 31,  22, 23, 24,
+    0, 1, 2,  21, 23, 25,  15, 17, 19,
+    22, 24, 26,  3, 4, 5,  9, 11, 13,
+    16, 18, 20,  10, 12, 14,  6, 7, 8,
 ];
 
-/// What the numbers of two pairs spell for each component of rank 4.
+/// The place of each component of rank 4 in the order of two pairs.
 #[rattlefmt::skip]
 const TWO_PAIRS: [u8; 81] = [
-    8, 13, 12,  13, 9, 11,  12, 11, 10,
-    43, 48, 47,  48, 44, 46,  47, 46, 45,
-    36, 41, 40,  41, 37, 39,  40, 39, 38,
-    43, 48, 47,  48, 44, 46,  47, 46, 45,
-    15, 20, 19,  20, 16, 18,  19, 18, 17,
-    29, 34, 33,  34, 30, 32,  33, 32, 31,
-    36, 41, 40,  41, 37, 39,  40, 39, 38,
-    29, 34, 33,  34, 30, 32,  33, 32, 31,
-    22, 27, 26,  27, 23, 25,  26, 25, 24,
+    0, 7, 5,  8, 1, 3,  6, 4, 2,
+    63, 77, 73,  78, 65, 69,  74, 70, 67,
+    45, 59, 55,  60, 47, 51,  56, 52, 49,
+    64, 79, 75,  80, 66, 71,  76, 72, 68,
+    9, 16, 14,  17, 10, 12,  15, 13, 11,
+    27, 41, 37,  42, 29, 33,  38, 34, 31,
+    46, 61, 57,  62, 48, 53,  58, 54, 50,
+    28, 43, 39,  44, 30, 35,  40, 36, 32,
+    18, 25, 23,  26, 19, 21,  24, 22, 20,
 ];
 
 /// An order of the components of rank R.
@@ -120,9 +120,9 @@ fn spelled_by<R: Rank>(sizes: &[u8], c: Comp<R>) -> u32
     spelled
 }
 
-/// For two blocks what those of each component spell, if it is known.
-fn spelled_by_two(first: u8, last: u8) -> &'static [u8]
-    ensures { (r : ℕ) → AreBlocks r (first ∷ last ∷ []) → AreSpelled r (first ∷ last ∷ []) result.now }
+/// The places of all components in the order of two blocks, if they are known.
+fn places_of_two(first: u8, last: u8) -> &'static [u8]
+    ensures { (r : ℕ) → AreBlocks r (first ∷ last ∷ []) → ArePlaced r (first ∷ last ∷ []) result.now }
 {
     if first == 1 && last == 2 {
         return &VECTOR_PAIR;
@@ -136,50 +136,46 @@ fn spelled_by_two(first: u8, last: u8) -> &'static [u8]
     &[]
 }
 
-/// For blocks what those of each component spell, if it is known, as for the blocks of a Voigt table.
-fn spelled_numbers(sizes: &[u8]) -> &'static [u8]
-    ensures { (r : ℕ) → AreBlocks r sizes.now → AreSpelled r sizes.now result.now }
+/// The places of all components in the order of blocks, if they are known, as for the blocks of a Voigt table.
+fn places_of(sizes: &[u8]) -> &'static [u8]
+    ensures { (r : ℕ) → AreBlocks r sizes.now → ArePlaced r sizes.now result.now }
 {
     if sizes.len() == 1 && sizes[0] == 2 {
         return &PAIR;
     }
     if sizes.len() == 2 {
-        return spelled_by_two(sizes[0], sizes[1]);
+        return places_of_two(sizes[0], sizes[1]);
     }
     &[]
 }
 
-/// What the blocks of a component spell: looked up where it is known.
-fn spelled_at<R: Rank>(sizes: &[u8], spelled: &[u8], c: Comp<R>) -> u32
-    requires blocks { AreBlocks R.R sizes.now }
-    requires spelled { AreSpelled R.R sizes.now spelled.now }
-    ensures { result ≡ spell 0 (block_numbers sizes.now (index_of R.R c)) }
-{
-    let number = c.number() as usize;
-    if number < spelled.len() {
-        return u32::from(spelled[number]);
-    }
-    spelled_by(sizes, c)
-}
-
-/// What decides between components in the order of blocks: what the numbers of the blocks spell, and behind it the
-/// component's own number.
-fn key_at<R: Rank>(sizes: &[u8], spelled: &[u8], c: Comp<R>) -> u64
-    requires blocks { AreBlocks R.R sizes.now }
-    requires spelled { AreSpelled R.R sizes.now spelled.now }
-    ensures is { result ≡ 1024 * spell 0 (block_numbers sizes.now (index_of R.R c)) + c }
-    ensures component { c < R.LEN }
-{
-    1024 * u64::from(spelled_at(sizes, spelled, c)) + u64::from(c.number())
-}
-
-/// Whether a component comes before another in the order of blocks.
-fn blocks_precede<R: Rank>(sizes: &[u8], spelled: &[u8], a: Comp<R>, b: Comp<R>) -> bool
-    requires blocks { AreBlocks R.R sizes.now }
-    requires spelled { AreSpelled R.R sizes.now spelled.now }
+/// Whether a component comes before another in the order of blocks: by what the numbers of their blocks spell, and where
+/// it agrees by the index digits.
+#[inline(never)]
+fn spelled_precede<R: Rank>(sizes: &[u8], a: Comp<R>, b: Comp<R>) -> bool
+    requires { AreBlocks R.R sizes.now }
     ensures { result ≡ block_before sizes.now (index_of R.R a) (index_of R.R b) }
 {
-    key_at(sizes, spelled, a) < key_at(sizes, spelled, b)
+    let one = spelled_by(sizes, a);
+    let other = spelled_by(sizes, b);
+    if one == other {
+        return index_precedes(a, b);
+    }
+    one < other
+}
+
+/// Whether a component comes before another in the order of blocks: by their places where these are known.
+fn blocks_precede<R: Rank>(sizes: &[u8], places: &[u8], a: Comp<R>, b: Comp<R>) -> bool
+    requires blocks { AreBlocks R.R sizes.now }
+    requires places { ArePlaced R.R sizes.now places.now }
+    ensures { result ≡ block_before sizes.now (index_of R.R a) (index_of R.R b) }
+{
+    let one = a.number() as usize;
+    let other = b.number() as usize;
+    if one < places.len() && other < places.len() {
+        return places[one] < places[other];
+    }
+    spelled_precede(sizes, a, b)
 }
 
 impl<R: Rank> Order<R> {
@@ -217,7 +213,7 @@ impl<R: Rank> Order<R> {
             kind: Kind::Blocks {
                 sizes,
                 count,
-                spelled: spelled_numbers(blocks),
+                places: places_of(blocks),
             },
             of: PhantomData,
         })
@@ -231,6 +227,7 @@ impl<R: Rank> Order<R> {
     }
 
     /// Whether a component comes before another.
+    #[inline(always)]
     pub fn before(&self, a: Comp<R>, b: Comp<R>) -> bool
         ensures { result ≡ before_of self.now (index_of R.R a) (index_of R.R b) }
     {
@@ -239,8 +236,8 @@ impl<R: Rank> Order<R> {
             Kind::Blocks {
                 sizes,
                 count,
-                spelled,
-            } => blocks_precede(&sizes[..*count], spelled, a, b),
+                places,
+            } => blocks_precede(&sizes[..*count], places, a, b),
         }
     }
 }
@@ -253,6 +250,7 @@ impl<R: Rank> Precedence for Order<R> {
 
     ghost order = { λ o. before_at R.R o };
 
+    #[inline(always)]
     fn precedes(&self, one: usize, other: usize) -> bool {
         self.before(Comp::at(one), Comp::at(other))
     }

@@ -1,36 +1,23 @@
 -- Entries by their numbers.
---   all_told        what a test says of each number below an end
 --   entries_listed, listed_at, at_listed    the entries in order are those of the numbers below the count
 --   number_told     the number of the entry of a number
 --   component_told  the component of the entry of a number
 --   entry_told      the block numbers of a component are those of the entry to which it belongs
+--   shears_told     the shear pairs of a component are those of the entry to which it belongs
 --   small_shift     the weight of an entry is 1, 2 or 4
 --   blocks_are      the blocks are together the indices of a rank
-use Rattle.list_laws.proofs.Kit.{◌≡◌, ℕ, zero, suc, ◌+◌, ◌^◌, ◌<◌, ◌≤◌, Bool, true, false, cond, nat_eq, nat_lt, List, [], ◌∷◌, ◌++◌, length, refl, ap, sym}
-use Rattle.list_laws.proofs.Kit.{◌∙◌, subst, arith, inl, inr, cases_lt, eqb-true, Contains-append_left, Contains-push, Contains-push_cases}
+use Rattle.list_laws.proofs.Kit.{◌≡◌, ℕ, zero, suc, ◌+◌, ◌^◌, ◌<◌, ◌≤◌, Bool, true, false, cond, nat_eq, nat_lt, List, [], ◌∷◌, ◌++◌, length, refl, sym}
+use Rattle.list_laws.proofs.Kit.{subst, arith, inl, inr, cases_lt, eqb-true, Contains-append_left, Contains-push, Contains-push_cases}
 use Rattle.std.specs.Prelude.{Contains}
 use Rattle.tensor_defs.specs.declared.Weights.{Weights}
 use Rattle.tensor_defs.specs.declared.Weights.TheVariants.{Plain, Shear}
 use Rattle.tensor_defs.specs.Prelude.{same_numbers_in, block_numbers, component_number, index_of, VoigtEntry, component_of, entries, rank_of_blocks, shift}
 use Rattle.tensor_rank.specs.Orders.{AreBlocks}
+use Rattle.list_laws.proofs.Below.{all_below, below_told}
 use Rattle.list_laws.proofs.Tests.{both, same_numbers_told}
 use Rattle.voigt_table.specs.declared.entries.Blocks.{Blocks}
 use Rattle.voigt_table.specs.declared.entries.Blocks.TheVariants.{Pair, VectorPair, PairVector, TwoPairs}
-use Rattle.voigt_table.specs.Blocks.{component_at, entry_at, entry_count, entry_number, entry_of, sizes_of}
-
--- ---- tests of all numbers below an end
-abbrev pub all_below : (ℕ → Bool) → ℕ → Bool
-all_below p zero = true
-all_below p (suc n) = cond (p n) (all_below p n) false
-
-pub all_told : (p : ℕ → Bool) (n : ℕ) → all_below p n ≡ true → (k : ℕ) → k < n → p k ≡ true
-all_told p zero e k l = absurd (omega arith)
-all_told p (suc n) e k l =
-    let parts = both (p n) (all_below p n) e in
-    elim (cases_lt k n) as (λ _. p k ≡ true) [
-      | inl h ↦ all_told p n parts.1 k h
-      | inr h ↦ let same : k ≡ n = omega arith in ap p same ∙ parts.0
-    ]
+use Rattle.voigt_table.specs.Blocks.{component_at, entry_at, entry_count, entry_number, entry_of, shears_at, sizes_of}
 
 -- ---- the entries in order
 -- the first n values
@@ -78,7 +65,7 @@ at_listed b k l =
 abbrev has_number : Blocks → ℕ → Bool
 has_number b k = nat_eq (entry_number (sizes_of b) (entry_at (sizes_of b) k)) k
 
-numbers_checked : (b : Blocks) → all_below (has_number b) (entry_count (sizes_of b)) ≡ true
+numbers_checked : (b : Blocks) → all_below (entry_count (sizes_of b)) (has_number b) ≡ true
 numbers_checked Pair = refl
 numbers_checked VectorPair = refl
 numbers_checked PairVector = refl
@@ -87,7 +74,7 @@ numbers_checked TwoPairs = refl
 pub number_told : (b : Blocks) (k : ℕ) → k < entry_count (sizes_of b) →
     entry_number (sizes_of b) (entry_at (sizes_of b) k) ≡ k
 number_told b k l =
-    eqb-true _ _ (all_told (has_number b) (entry_count (sizes_of b)) (numbers_checked b) k l)
+    eqb-true _ _ (below_told (entry_count (sizes_of b)) (has_number b) (numbers_checked b) k l)
 
 -- ---- components
 abbrev has_component : Blocks → ℕ → Bool
@@ -95,7 +82,7 @@ has_component b k =
     cond (nat_eq (component_at b k) (component_number (component_of (sizes_of b) (entry_at (sizes_of b) k))))
     (nat_eq (length (component_of (sizes_of b) (entry_at (sizes_of b) k))) (rank_of_blocks (sizes_of b))) false
 
-components_checked : (b : Blocks) → all_below (has_component b) (entry_count (sizes_of b)) ≡ true
+components_checked : (b : Blocks) → all_below (entry_count (sizes_of b)) (has_component b) ≡ true
 components_checked Pair = refl
 components_checked VectorPair = refl
 components_checked PairVector = refl
@@ -105,7 +92,7 @@ component_parts : (b : Blocks) (k : ℕ) → k < entry_count (sizes_of b) →
     (component_at b k ≡ component_number (component_of (sizes_of b) (entry_at (sizes_of b) k)))
     × (length (component_of (sizes_of b) (entry_at (sizes_of b) k)) ≡ rank_of_blocks (sizes_of b))
 component_parts b k l =
-    let parts = both _ _ (all_told (has_component b) (entry_count (sizes_of b)) (components_checked b) k l) in
+    let parts = both _ _ (below_told (entry_count (sizes_of b)) (has_component b) (components_checked b) k l) in
     (eqb-true _ _ parts.0, eqb-true _ _ parts.1)
 
 pub component_told : (b : Blocks) (k : ℕ) → k < entry_count (sizes_of b) →
@@ -122,7 +109,7 @@ has_entry_of b c =
     same_numbers_in (entry_at (sizes_of b) (entry_of b c))
     (block_numbers (sizes_of b) (index_of (rank_of_blocks (sizes_of b)) c))
 
-entries_checked : (b : Blocks) → all_below (has_entry_of b) (3 ^ rank_of_blocks (sizes_of b)) ≡ true
+entries_checked : (b : Blocks) → all_below (3 ^ rank_of_blocks (sizes_of b)) (has_entry_of b) ≡ true
 entries_checked Pair = refl
 entries_checked VectorPair = refl
 entries_checked PairVector = refl
@@ -131,9 +118,23 @@ entries_checked TwoPairs = refl
 pub entry_told : (b : Blocks) (c : ℕ) → c < 3 ^ rank_of_blocks (sizes_of b) →
     entry_at (sizes_of b) (entry_of b c) ≡ block_numbers (sizes_of b) (index_of (rank_of_blocks (sizes_of b)) c)
 entry_told b c l =
-    same_numbers_told _ _ (all_told (has_entry_of b) (3 ^ rank_of_blocks (sizes_of b)) (entries_checked b) c l)
+    same_numbers_told _ _ (below_told (3 ^ rank_of_blocks (sizes_of b)) (has_entry_of b) (entries_checked b) c l)
 
 -- ---- weights
+abbrev has_shears : Blocks → ℕ → Bool
+has_shears b c = nat_eq (shears_at b c) (shift Shear (entry_at (sizes_of b) (entry_of b c)))
+
+shears_checked : (b : Blocks) → all_below (3 ^ rank_of_blocks (sizes_of b)) (has_shears b) ≡ true
+shears_checked Pair = refl
+shears_checked VectorPair = refl
+shears_checked PairVector = refl
+shears_checked TwoPairs = refl
+
+pub shears_told : (b : Blocks) (c : ℕ) → c < 3 ^ rank_of_blocks (sizes_of b) →
+    shears_at b c ≡ shift Shear (entry_at (sizes_of b) (entry_of b c))
+shears_told b c l =
+    eqb-true _ _ (below_told (3 ^ rank_of_blocks (sizes_of b)) (has_shears b) (shears_checked b) c l)
+
 one_at_most : (t : Bool) → cond t 1 0 ≤ 1
 one_at_most true = omega arith
 one_at_most false = omega arith

@@ -1,5 +1,6 @@
 -- What is kept of a component table: free components, and the rows of all components.
---   small_component, small_entry, apart    the components of entries, and the entries of components
+--   small_component, small_entry, back, apart    the components of entries, and the entries of components
+--   listed_component    the component at a place of the list of them
 --   kept_row, kept_free    what is kept tells the rows and the free entries of a Voigt table
 --   kept_whole      it is one
 --   plain_weighed   with plain weights nothing changes
@@ -28,40 +29,45 @@ use Rattle.voigt_table.specs.declared.entries.Blocks.TheVariants.{Pair, VectorPa
 use Rattle.voigt_table.specs.Blocks.{component_at, entry_at, entry_count, entry_of, sizes_of}
 use Rattle.voigt_table.specs.Tables.{IsVoigtValue, VoigtValue, kept_value}
 use Rattle.voigt_table.specs.Weighing.{AreHeld, AreWeighed, AreWeightedTerms, IsWeighed, IsWeighted, TellsWeighed, WeighsOver, WeighsTooMuch, entry_of_place, entry_terms}
-use Rattle.voigt_table.proofs.EntryLaws.{all_below, all_told, component_told, entry_told}
+use Rattle.list_laws.proofs.Below.{all_below, below_told}
+use Rattle.voigt_table.proofs.EntryLaws.{component_told, entry_told}
 use Rattle.voigt_table.proofs.TableLaws.{no_term, zipped_named}
 use Rattle.voigt_table.proofs.WeightLaws.{even, pow2}
 
 -- ---- components of entries, and entries of components
-components_small : (b : Blocks) → all_below (λ k. nat_lt (component_at b k) (3 ^ rank_of_blocks (sizes_of b))) (entry_count (sizes_of b)) ≡ true
+components_small : (b : Blocks) → all_below (entry_count (sizes_of b)) (λ k. nat_lt (component_at b k) (3 ^ rank_of_blocks (sizes_of b))) ≡ true
 components_small Pair = refl
 components_small VectorPair = refl
 components_small PairVector = refl
 components_small TwoPairs = refl
 
 pub small_component : (b : Blocks) (k : ℕ) → k < entry_count (sizes_of b) → component_at b k < 3 ^ rank_of_blocks (sizes_of b)
-small_component b k l = ltb-true _ _ (all_told _ (entry_count (sizes_of b)) (components_small b) k l)
+small_component b k l = ltb-true _ _ (below_told (entry_count (sizes_of b)) _ (components_small b) k l)
 
-entries_small : (b : Blocks) → all_below (λ c. nat_lt (entry_of b c) (entry_count (sizes_of b))) (3 ^ rank_of_blocks (sizes_of b)) ≡ true
+entries_small : (b : Blocks) → all_below (3 ^ rank_of_blocks (sizes_of b)) (λ c. nat_lt (entry_of b c) (entry_count (sizes_of b))) ≡ true
 entries_small Pair = refl
 entries_small VectorPair = refl
 entries_small PairVector = refl
 entries_small TwoPairs = refl
 
 pub small_entry : (b : Blocks) (c : ℕ) → c < 3 ^ rank_of_blocks (sizes_of b) → entry_of b c < entry_count (sizes_of b)
-small_entry b c l = ltb-true _ _ (all_told _ (3 ^ rank_of_blocks (sizes_of b)) (entries_small b) c l)
+small_entry b c l = ltb-true _ _ (below_told (3 ^ rank_of_blocks (sizes_of b)) _ (entries_small b) c l)
 
-entries_back : (b : Blocks) → all_below (λ k. nat_eq (entry_of b (component_at b k)) k) (entry_count (sizes_of b)) ≡ true
+entries_back : (b : Blocks) → all_below (entry_count (sizes_of b)) (λ k. nat_eq (entry_of b (component_at b k)) k) ≡ true
 entries_back Pair = refl
 entries_back VectorPair = refl
 entries_back PairVector = refl
 entries_back TwoPairs = refl
 
-back : (b : Blocks) (k : ℕ) → k < entry_count (sizes_of b) → entry_of b (component_at b k) ≡ k
-back b k l = eqb-true _ _ (all_told _ (entry_count (sizes_of b)) (entries_back b) k l)
+pub back : (b : Blocks) (k : ℕ) → k < entry_count (sizes_of b) → entry_of b (component_at b k) ≡ k
+back b k l = eqb-true _ _ (below_told (entry_count (sizes_of b)) _ (entries_back b) k l)
 
 pub apart : (b : Blocks) (i k : ℕ) → i < entry_count (sizes_of b) → k < entry_count (sizes_of b) → component_at b i ≡ component_at b k → i ≡ k
 apart b i k l m e = sym (back b i l) ∙ ap (entry_of b) e ∙ back b k m
+
+pub listed_component : (b : Blocks) (k d : ℕ) → k < entry_count (sizes_of b) →
+    get_or (map (component_at b) (range_with_len 0 (entry_count (sizes_of b)))) k d ≡ component_at b k
+listed_component b k d l = get_or-map-range_with_len (component_at b) 0 (entry_count (sizes_of b)) k k d l (omega arith)
 
 -- ---- what is kept
 pub kept_row : (b : Blocks) (rows : List (List Term)) (k : ℕ) → k < entry_count (sizes_of b) →

@@ -10,6 +10,7 @@
 --   pair_component, pair_number    the first two indices of a pair, by their number; the pair of two indices, less 1
 --   component_at    the number of an entry's component
 --   entry_of        the number of the entry that a component has
+--   shear, shears_at    1 for two indices that differ; how many blocks of a component are such pairs
 -- Source: International Tables D 1.1 (matrix notation).
 use Rattle.std.specs.Prelude.{◌≡◌, ℕ, ◌+◌, ◌-◌, ◌*◌, ◌/◌, ◌%◌, ◌==◌, List, [], ◌∷◌, Option, Some, None, get_or, if◌then◌else◌}
 use Rattle.tensor_defs.specs.Jahn as defs
@@ -95,3 +96,12 @@ entry_of Pair c = pair_number c
 entry_of VectorPair c = c / 9 * 6 + pair_number (c % 9)
 entry_of PairVector c = pair_number (c / 3) * 3 + c % 3
 entry_of TwoPairs c = pair_number (c / 9) * 6 + pair_number (c % 9)
+
+abbrev pub shear : ℕ → ℕ
+shear c = get_or (0 ∷ 1 ∷ 1 ∷ 1 ∷ 0 ∷ 1 ∷ 1 ∷ 1 ∷ 0 ∷ []) c 0
+
+abbrev pub shears_at : Blocks → ℕ → ℕ
+shears_at Pair c = shear c
+shears_at VectorPair c = shear (c % 9)
+shears_at PairVector c = shear (c / 3)
+shears_at TwoPairs c = shear (c / 9) + shear (c % 9)

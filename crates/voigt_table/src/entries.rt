@@ -1,10 +1,11 @@
 //! The entries of a Voigt table by their numbers, and their components.
-ghost use Rattle.std.specs.Prelude.{◌≡◌, ◌^◌, ◌<◌, ◌≤◌};
+ghost use Rattle.std.specs.Prelude.{◌≡◌, ◌^◌, ◌<◌, ◌≤◌, map};
+ghost use Rattle.std.specs.List.{range_with_len};
 ghost use Rattle.tensor_defs.specs.Orders.{block_numbers};
 ghost use Rattle.tensor_defs.specs.Tensor.{component_number, index_of};
-ghost use Rattle.tensor_defs.specs.Voigt.{component_of, rank_of_blocks, shear_pairs, shift};
+ghost use Rattle.tensor_defs.specs.Voigt.{component_of, rank_of_blocks, shift};
 ghost use Rattle.tensor_rank.specs.Orders.{AreBlocks, ByBlocks};
-ghost use Rattle.voigt_table.specs.Blocks.{component_at, entry_at, entry_count, entry_of, numbers_of, pair_component, pair_number, sizes_of};
+ghost use Rattle.voigt_table.specs.Blocks.{component_at, entry_at, entry_count, entry_of, numbers_of, pair_number, shear, shears_at, sizes_of};
 
 use crate::entry::Entry;
 use tensor_defs::Weights;
@@ -25,12 +26,36 @@ const PAIR_COMPONENTS: [u8; 6] = [0, 4, 8, 5, 2, 1];
 /// Which of these pairs each two indices are, from 0.
 const PAIR_NUMBERS: [u8; 9] = [0, 5, 4, 5, 1, 3, 4, 3, 2];
 
-/// The first two indices, as a number, of a pair.
-fn pair_component(pair: usize) -> usize
-    requires { pair < 6 }
-    ensures { result ≡ pair_component pair }
+/// The components of the entries of a single index and a pair.
+const VECTOR_PAIR_COMPONENTS: [u8; 18] = [
+    0, 4, 8, 5, 2, 1, 9, 13, 17, 14, 11, 10, 18, 22, 26, 23, 20, 19,
+];
+
+/// The components of the entries of a pair and a single index.
+const PAIR_VECTOR_COMPONENTS: [u8; 18] = [
+    0, 1, 2, 12, 13, 14, 24, 25, 26, 15, 16, 17, 6, 7, 8, 3, 4, 5,
+];
+
+/// The components of the entries of two pairs.
+#[rattlefmt::skip]
+const TWO_PAIRS_COMPONENTS: [u8; 36] = [
+    0, 4, 8, 5, 2, 1,
+    36, 40, 44, 41, 38, 37,
+    72, 76, 80, 77, 74, 73,
+    45, 49, 53, 50, 47, 46,
+    18, 22, 26, 23, 20, 19,
+    9, 13, 17, 14, 11, 10,
+];
+
+/// 1 for each two indices that differ, which make a shear pair.
+const SHEARS: [u8; 9] = [0, 1, 1, 1, 0, 1, 1, 1, 0];
+
+/// 1 for a shear pair, by its two indices.
+fn shear(component: usize) -> u8
+    requires { component < 9 }
+    ensures { result ≡ shear component }
 {
-    PAIR_COMPONENTS[pair] as usize
+    SHEARS[component]
 }
 
 /// The pair of two indices.
@@ -74,29 +99,15 @@ impl Blocks {
         }
     }
 
-    /// The power of 2 that is the weight of the entry of a number.
-    pub fn shift(self, number: usize, weights: Weights) -> u8
-        requires { number < entry_count (sizes_of self) }
-        ensures value { result ≡ shift weights (entry_at (sizes_of self) number) }
-        ensures small { result ≤ 2 }
-    {
-        match weights {
-            Weights::Plain => 0,
-            Weights::Shear => self.entry(number).shift(weights),
-        }
-    }
-
-    /// The same as `component`, by arithmetic.
-    fn component_at(self, number: usize) -> usize
-        requires { number < entry_count (sizes_of self) }
-        ensures value { result ≡ component_at self number }
-        ensures below { result < 3 ^ rank_of_blocks (sizes_of self) }
+    /// The components of the entries, in their order.
+    fn components(self) -> &'static [u8]
+        ensures { result.now ≡ map (component_at self) (range_with_len 0 (entry_count (sizes_of self))) }
     {
         match self {
-            Blocks::Pair => pair_component(number),
-            Blocks::VectorPair => number / 6 * 9 + pair_component(number % 6),
-            Blocks::PairVector => pair_component(number / 3) * 3 + number % 3,
-            Blocks::TwoPairs => pair_component(number / 6) * 9 + pair_component(number % 6),
+            Blocks::Pair => &PAIR_COMPONENTS,
+            Blocks::VectorPair => &VECTOR_PAIR_COMPONENTS,
+            Blocks::PairVector => &PAIR_VECTOR_COMPONENTS,
+            Blocks::TwoPairs => &TWO_PAIRS_COMPONENTS,
         }
     }
 
@@ -107,7 +118,7 @@ impl Blocks {
         ensures value { result ≡ component_number (component_of (sizes_of self) (entry_at (sizes_of self) number)) }
         ensures below { result < 3 ^ rank_of_blocks (sizes_of self) }
     {
-        self.component_at(number)
+        self.components()[number] as usize
     }
 
     /// The same as `entry_of`, by arithmetic.
@@ -136,6 +147,40 @@ impl Blocks {
         self.entry_at(component)
     }
 
+    /// How many blocks of a component are shear pairs.
+    fn shears_at(self, component: usize) -> u8
+        requires { component < 3 ^ rank_of_blocks (sizes_of self) }
+        ensures value { result ≡ shears_at self component }
+    {
+        match self {
+            Blocks::Pair => shear(component),
+            Blocks::VectorPair => shear(component % 9),
+            Blocks::PairVector => shear(component / 3),
+            Blocks::TwoPairs => shear(component / 9) + shear(component % 9),
+        }
+    }
+
+    /// The power of 2 that is the weight of the entry to which a component belongs.
+    pub fn shift_of(self, component: usize, weights: Weights) -> u8
+        requires { component < 3 ^ rank_of_blocks (sizes_of self) }
+        ensures value { result ≡ shift weights (entry_at (sizes_of self) (entry_of self component)) }
+        ensures small { result ≤ 2 }
+    {
+        match weights {
+            Weights::Plain => 0,
+            Weights::Shear => self.shears_at(component),
+        }
+    }
+
+    /// The power of 2 that is the weight of the entry of a number.
+    pub fn shift(self, number: usize, weights: Weights) -> u8
+        requires { number < entry_count (sizes_of self) }
+        ensures value { result ≡ shift weights (entry_at (sizes_of self) number) }
+        ensures small { result ≤ 2 }
+    {
+        self.shift_of(self.component(number), weights)
+    }
+
     /// The order of components by the block numbers.
     pub fn order<R: Rank>(self) -> Order<R>
         requires { AreBlocks R.R (sizes_of self) }
@@ -148,29 +193,5 @@ impl Blocks {
             Blocks::TwoPairs => Order::of_blocks(&[2, 2]),
         };
         order.unwrap()
-    }
-}
-
-impl Entry {
-    /// How many of its blocks have the number of a shear pair: 4, 5 or 6.
-    fn shear_pairs(&self) -> u8
-        ensures { result ≡ shear_pairs (numbers_of self.now) }
-    {
-        let last = u8::from(self.last > 3);
-        match self.first {
-            Some(first) => u8::from(first > 3) + last,
-            None => last,
-        }
-    }
-
-    /// The power of 2 that is its weight.
-    pub fn shift(&self, weights: Weights) -> u8
-        ensures value { result ≡ shift weights (numbers_of self.now) }
-        ensures small { result ≤ 2 }
-    {
-        match weights {
-            Weights::Plain => 0,
-            Weights::Shear => self.shear_pairs(),
-        }
     }
 }

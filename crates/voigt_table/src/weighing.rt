@@ -60,10 +60,12 @@ fn weigh_row(
     ensures ok { OnOk result (AreWeightedTerms weights (entry_of_place (sizes_of blocks) (map (entry_of blocks) free.now)) (entry_at (sizes_of blocks) number) row.old row.new) }
     ensures grows { IfErr result (λ e. e ≡ SolveFault.TooLarge → WeighsTooMuch weights (entry_of_place (sizes_of blocks) (map (entry_of blocks) free.now)) (entry_at (sizes_of blocks) number) row.old) }
 {
+    if row.is_empty() {
+        return Ok(());
+    }
     let shift = blocks.shift(number, weights);
     for place in 0..row.len() {
-        let of = blocks.entry_of(free[row[place].free as usize] as usize);
-        let other = blocks.shift(of, weights);
+        let other = blocks.shift_of(free[row[place].free as usize] as usize, weights);
         match weighted(&row[place].factor, shift, other) {
             Ok(factor) => row[place].factor = factor,
             Err(TooLarge) => return Err(SolveFault::TooLarge),

@@ -19,6 +19,6 @@ returns-then-number-c-clause-free g c =
     let told = class_some c.args.classes.now c.at.result _ (sym c.in-Some.ensures) in
     let open_c : vanishes_at c.args.classes.now c.args.c ≡ false = ap (vanishes_at c.args.classes.now) (sym c.at.ensures) ∙ told.0 in
     let first_c : first_at c.args.classes.now c.args.c ≡ c.args.c = ap (first_at c.args.classes.now) (sym c.at.ensures) ∙ told.1 ∙ sym c.number.ensures.same ∙ c.if-number-c.true in
-    let items : c.insert.new.self.items ≡ insert free place c.args.c = c.in_ok-insert.ensures.items in
+    let items : c.put_free.new.free.items ≡ insert free place c.args.c = c.in_ok-put_free.ensures in
     subst (λ (xs : List ℕ). IsFreeUpTo n before c.args.classes.now xs (c.args.c + 1)) (sym items)
     (free_inserted c.requires.free c.requires.component open_c first_c (order_total n g.R.Rank.R g.R.Rank.power c.args.order.now) place within after stops)

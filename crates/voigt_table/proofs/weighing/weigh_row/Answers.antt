@@ -23,10 +23,10 @@ returns-in-Err-clause-grows c = λ large.
     let same : t ≡ u = of_t ∙ sym of_u in
     let small : t.free < length c.args.free.now =
     subst (λ (x : Term). x.free < length c.args.free.now) (sym of_t) (each_at (λ x. x.free < length c.args.free.now) no_term c.args.row.now c.requires.named p inside) in
-    let of_free : c.shift-other.result ≡ shift w (frees u.free) =
-    c.shift-other.ensures.value ∙ ap (λ x. shift w (entry_at (sizes_of b) x)) (c.entry_of-of.ensures.value ∙ sym (kept_free b c.args.free.now t.free small))
+    let of_free : c.shift_of-other.result ≡ shift w (frees u.free) =
+    c.shift_of-other.ensures.value ∙ ap (λ x. shift w (entry_at (sizes_of b) x)) (sym (kept_free b c.args.free.now t.free small))
     ∙ ap (λ x. shift w (frees x.free)) same in
-    term_over w frees e c.args.row.now p u c.shift-shift.result c.shift-other.result inside of_u c.shift-shift.ensures.value of_free c.in-Err.ensures
+    term_over w frees e c.args.row.now p u c.shift-shift.result c.shift_of-other.result inside of_u c.shift-shift.ensures.value of_free c.in-Err.ensures
 
 pub loop-place-preserved : goal.loop-place-preserved
 loop-place-preserved c =
@@ -44,12 +44,12 @@ loop-place-preserved c =
     let same : t ≡ u = of_t ∙ sym of_u in
     let small : t.free < length c.args.free.now =
     subst (λ (x : Term). x.free < length c.args.free.now) (sym of_t) (each_at (λ x. x.free < length c.args.free.now) no_term c.args.row.now c.requires.named p inside) in
-    let of_free : c.shift-other.result ≡ shift w (frees u.free) =
-    c.shift-other.ensures.value ∙ ap (λ x. shift w (entry_at (sizes_of b) x)) (c.entry_of-of.ensures.value ∙ sym (kept_free b c.args.free.now t.free small))
+    let of_free : c.shift_of-other.result ≡ shift w (frees u.free) =
+    c.shift_of-other.ensures.value ∙ ap (λ x. shift w (entry_at (sizes_of b) x)) (sym (kept_free b c.args.free.now t.free small))
     ∙ ap (λ x. shift w (frees x.free)) same in
     record {
       row = row_next w frees e c.args.row.now c.loop-place.row _ p _ c.loop-place.invariant.row inside
-          (term_weighed w frees e u (get_or c.args.row.now p no_term) c.shift-shift.result c.shift-other.result c.in-Ok.factor _ of_u
+          (term_weighed w frees e u (get_or c.args.row.now p no_term) c.shift-shift.result c.shift_of-other.result c.in-Ok.factor _ of_u
           c.shift-shift.ensures.value of_free c.in-Ok.ensures (ap (λ x. x.free) (sym c.index-row-place-in-Ok.is ∙ of_v))) refl;
     }
 
