@@ -29,7 +29,7 @@ loop-entry-preserved c =
           cc
           in (
             more-at (whole_line ws) ws i w c.loop-entry.taken.items c.if-not-is_zero.taken.items (record { unknown = w.unknown; value = f }) m h e
-                refl v.same (record { held = v.held; not_zero = z }) ((λ j. (b.taken-is j).items) ∙ b.in-Ok-push.ensures.items),
+                refl v.same (record { held = v.held; not_zero = z }) ((λ j. (b.taken-is j).items) ∙ b.in-Ok-push.ensures.ok),
             (omega (arith, h)),
           )
       | else-not-is_zero b ↦
