@@ -2,8 +2,8 @@
 --   diagonal_plain    a diagonal operation is plain
 --   own_coefficient, turns_by, not_turns_by    it carries each component to itself
 --   own_carried, killed_along    an exchange of blocks leaves the coefficient from a component to itself
---   killed_at, killed_none, entry_more    an element of a list kills
---   diagonals_start, diagonals_skip, diagonals_more, diagonal_columns, told_lower, turned_marked    the diagonal elements by their rows
+--   entry_more    a fact of the entries at a push
+--   diagonals_skip, diagonals_more, diagonal_columns, told_lower, turned_marked    the diagonal elements by their rows
 use Rattle.std.proofs.Common.{◌≡◌, ◌≢◌, ℕ, ◌+◌, ◌<◌, ◌^◌, ◌⊎◌, Bool, true, false, List, [], ◌∷◌, ◌++◌, length, length-append, get_or, refl, ap, sym, ◌∙◌, arith, subst, inl, inr}
 use Rattle.std.proofs.lemmas.Bool.{cases_lt}
 use Rattle.std.proofs.lemmas.List.{get_or_append_left, get_or_default, get_or_push}
@@ -136,21 +136,6 @@ killed_along {m} {H} {c} {d} same h = record {
 }
 
 -- ---- an element of a list kills
-pub killed_at : (m : Marks) (hs : List Operation) (c : Index) (k : ℕ) → k < length hs → Kills m c (get_or hs k identity) → IsKilled m (In hs) c
-killed_at m hs c k l h = record {
-  element = get_or hs k identity;
-  inside = (k, l, get_or_default hs k (get_or hs k identity) identity l);
-  diagonal = h.diagonal;
-  turns = h.turns.turns;
-}
-
-pub killed_none : (m : Marks) (hs : List Operation) (c : Index) →
-    ((k : ℕ) → k < length hs → Kills m c (get_or hs k identity) → ⊥) → IsKilled m (In hs) c → ⊥
-killed_none m hs c none h =
-    let k = h.inside.0 in
-    let at : get_or hs k identity ≡ h.element = get_or_default hs k identity h.element h.inside.1 ∙ h.inside.2 in
-    none k h.inside.1 (subst (Kills m c) (sym at) (record { diagonal = h.diagonal; turns = record { turns = h.turns } }))
-
 -- what holds of each entry and of one more
 pub entry_more : (P : ℕ → Entry → Type 0) (es : List Entry) (e : Entry) (n : ℕ) → length es ≡ n → ((k : ℕ) → k < n → P k (entry_at es k)) →
     P n e → (k : ℕ) → k < n + 1 → P k (entry_at (es ++ e ∷ []) k)
@@ -168,9 +153,6 @@ entry_more P es e n len each last k h =
 -- ---- the diagonal elements by their rows
 abbrev none : PlainOp
 none = record { images = []; negates = []; whole = Plus }
-
-pub diagonals_start : (m : Marks) (hs : List Operation) → AreDiagonals m hs 0 []
-diagonals_start m hs = record { found = λ k l. absurd (omega arith); all = λ k l. absurd (omega arith) }
 
 pub diagonals_skip : (m : Marks) (hs : List Operation) (place : ℕ) (ps : List PlainOp) (g : Operation) → get_or hs place identity ≡ g → (IsDiagonal g → ⊥) →
     AreDiagonals m hs place ps → AreDiagonals m hs (place + 1) ps

@@ -305,12 +305,6 @@ module _ (r : ℕ) (before : ℕ → ℕ → Bool) (es : List Entry) (chosen : W
       ap (λ m. filter chosen (words_below r m)) next
       ∙ filter-append chosen (words_below r n) (word_at r n ∷ []) ∙ ap (λ ws. filter chosen (words_below r n) ++ ws) (one_chosen (word_at r n) u e)
 
-  pub word_passed : (n : ℕ) (rows : List (List Part)) → chosen (word_at r n) ≡ false → AreRowsBelow r before es chosen n rows →
-      AreRowsBelow r before es chosen (n + 1) rows
-  word_passed n rows e h = record {
-    gone = subst (λ ws. AreWordRows r before es ws rows) (sym (chosen_more n false e ∙ append-nil (filter chosen (words_below r n)))) h.gone;
-  }
-
   pub word_taken : (n : ℕ) (rows : List (List Part)) (a b : List Part) → chosen (word_at r n) ≡ true → AreRowsBelow r before es chosen n rows →
       IsCarriedRow r before es (even_row (word_at r n)) a → IsCarriedRow r before es (odd_row (word_at r n)) b →
       AreRowsBelow r before es chosen (n + 1) (rows ++ a ∷ b ∷ [])

@@ -30,12 +30,6 @@ pub signed-scale : (b : Bool) (k g : ℕ) → signed b k *ℤ pos g ≡ signed b
 signed-scale true k g = neg-mul_ℤ (pos k) (pos g)
 signed-scale false k g = refl
 
-pub quotient-parts : (p d : ℤ) → over (signed (opposite p d) (unsigned_abs p)) (unsigned_abs d) ≡ quotient p d
-quotient-parts (pos a) (pos b) = refl
-quotient-parts (negsuc a) (pos b) = refl
-quotient-parts (pos a) (negsuc b) = refl
-quotient-parts (negsuc a) (negsuc b) = refl
-
 pub size-positive : (d : ℤ) → d ≢ pos 0 → 0 < unsigned_abs d
 size-positive (pos zero) h = absurd (h refl)
 size-positive (pos (suc a)) h = omega arith

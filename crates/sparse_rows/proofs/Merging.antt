@@ -2,7 +2,7 @@
 --   coeff-small    each coefficient of a row is 0 or one of its fractions
 --   IsMerging, merge-start, below_head, below_tail, merge-left, merge-right ..
 --       what is left of both rows, and what is made so far
---   above-at, entry-at, at-left, at-right, heads-at, right-head ..    the steps, at places of both rows
+--   above-at, at-left, at-right, heads-at, right-head ..    the steps, at places of both rows
 use Rattle.std.proofs.Common.{length, get_or, drop, ◌≡◌, ◌≢◌, ℕ, ◌+◌, ◌<◌, ◌≤◌, ◌⊎◌, inl, inr, List, [], ◌∷◌, ◌++◌, refl, ap, sym, ◌∙◌, subst, arith, lit<, nat_eq, cond}
 use Rattle.std.proofs.lemmas.Bool.{cases_eq, eq-eqb, ne_eqb}
 use Rattle.tensor_defs.specs.Prelude.{Number, add, mul, neg, num_zero, whole, ReachesLimit, value_of, Fraction, Line, minus_times, TimesGrows, Each}
@@ -252,9 +252,6 @@ pub above-at : (a b : Entry) (xs : List Entry) (j : ℕ) → j < length xs → b
 above-at a b xs j h e r k =
     let d = drop_head xs j b h e in
     subst (Above a.unknown) (sym d) (head-above a b (drop (j + 1) xs) (subst IsRow d r) k)
-
-pub entry-at : (b : Entry) (xs : List Entry) (j : ℕ) → j < length xs → b ≡ get_or xs j b → IsRow (drop j xs) → IsEntry b
-entry-at b xs j h e r = (subst IsRow (drop_head xs j b h e) r).1
 
 pub at-left : (ρ : Line) (f : Number) (σ : Line) (xs B out new : List Entry) (i : ℕ) (a : Entry) → IsMerging ρ f σ (drop i xs) B out → i < length xs → a ≡ get_or xs i a → Above a.unknown B → new ≡ out ++ a ∷ [] → IsMerging ρ f σ (drop (i + 1) xs) B new
 at-left ρ f σ xs B out new i a m h e k o = subst (IsMerging ρ f σ (drop (i + 1) xs) B) (sym o) (merge-left ρ f σ a (drop (i + 1) xs) B out (subst (λ A. IsMerging ρ f σ A B out) (drop_head xs i a h e) m) k)

@@ -3,8 +3,8 @@
 --   IsReducing, reducing-start, line_path, reducing-skip, reducing-away, reduced-away, reducing-step    reducing
 --   scaling-nonzero, IsScaling, scaling-start, scaling-step, scaling-grows, scaling-same ..    scaling
 --   IsClearing, clearing-start, clearing-step, cleared-away, seen-more, append-none, kepts-snoc, rows-snoc ..    clearing
---   clearing-at, kept-none, cleared-copy, cleared-less, cleared-grows, reducing-at ..    at places of lists
---   kept-made, kept-fails, scale-fails    keeping
+--   clearing-at, cleared-copy, cleared-less, cleared-grows, reducing-at ..    at places of lists
+--   kept-made    keeping
 --   line-head, given-row, state-at, skip-at, keep-at, keep-fails, state-done    one row more
 --   difference-same, times-same, reduced-same, reducing_same, kept-same, cannot-same, err-same
 --       the same lists under other names
@@ -332,9 +332,6 @@ clearing-at new all ks ks' out out' old k s r h c o =
       subst AreRows (sym o) (rows-snoc out k r c.is_row),
     )
 
-pub kept-none : (ks : List KeptRow) (i : ℕ) → length ks ≤ i → drop i ks ≡ []
-kept-none ks i h = drop_of_length-le ks h
-
 pub cleared-copy : (new old k : KeptRow) → k.pivot ≡ old.pivot → k.entries.items ≡ old.entries.items → IsRow old.entries.items → coeff old.entries.items new.pivot ≡ num_zero → IsClearedRow (kept_of new) (kept_of old) k
 cleared-copy new old k p e r z = record {
   is_row = subst IsRow (sym e) r;
@@ -367,11 +364,6 @@ pub reducing-grows : (ks : List KeptRow) (ρ0 ρ : Line) (i : ℕ) (k : KeptRow)
     → f ≡ ρ k.pivot → ρ k.pivot ≢ num_zero → TimesGrows ρ f (coeff k.entries.items) → ReducingGrows (kepts ks) ρ0
 reducing-grows ks ρ0 ρ i k f s h e p z g = (reducing-at ks ρ0 ρ i k s h e).from (inl (cleared-grows k ρ f p z g))
 
-pub reducing-end : (ks : List KeptRow) (ρ0 : Line) (i : ℕ) (es : List Entry) → IsReducing (kepts ks) ρ0 (kepts (drop i ks)) (coeff es) → IsRow es → length ks ≤ i → IsReducedRow (kepts ks) ρ0 es
-reducing-end ks ρ0 i es s r h =
-    let m : IsReducing (kepts ks) ρ0 [] (coeff es) = subst (λ l. IsReducing (kepts ks) ρ0 (kepts l) (coeff es)) (kept-none ks i h) s in
-    record { is_row = r; same = m.same; calm = λ g. m.then g }
-
 -- ---- keeping
 pub kept-made : (κs : List Kept) (ρ : Line) (new : KeptRow) (next out : List KeptRow) → IsScaledRow ρ new → AreCleared (kept_of new) κs next → out ≡ next ++ new ∷ [] → IsKeptRow κs ρ out
 kept-made κs ρ new next out s c o = record {
@@ -383,12 +375,6 @@ kept-made κs ρ new next out s c o = record {
   calm_line = s.calm;
   calm_clear = subst (λ κ. ClearingGrows κ κs → ⊥) s.same c.calm;
 }
-
-pub kept-fails : (κs : List Kept) (ρ : Line) (new : KeptRow) → IsScaledRow ρ new → ClearingGrows (kept_of new) κs → CannotKeep κs ρ
-kept-fails κs ρ new s g = record { place = new.pivot; inverse = s.inverse; pivot = s.pivot; grows = inr (subst (λ κ. ClearingGrows κ κs) s.same g) }
-
-pub scale-fails : (κs : List Kept) (ρ : Line) → CannotScale ρ → CannotKeep κs ρ
-scale-fails κs ρ s = record { place = s.place; inverse = s.inverse; pivot = s.pivot; grows = inl s.grows }
 
 -- ---- one row more
 pub line-head : (rs : List Row) (i : ℕ) (r : Row) → i < length rs → r ≡ get_or rs i r → drop i rs ≡ r ∷ drop (i + 1) rs
