@@ -36,7 +36,7 @@ pub struct KeptRow {
 #[derive(Debug, Drop)]
 pub struct PivotSum {
     pub pivot: usize,
-    pub terms: SmallVec<Entry, 2>,
+    pub terms: Vec<Entry>,
 }
 
 /// Why an elimination has no answer.

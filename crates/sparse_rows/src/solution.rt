@@ -6,15 +6,14 @@ ghost use Rattle.sparse_rows.specs.KeptRows.{kept_of, kepts, AreRows};
 ghost use Rattle.sparse_rows.specs.Sums.{IsNegated, IsPivotSum, AreSolved};
 
 use crate::entry::{Entry, KeptRow, NoMemory, PivotSum};
-use smallvec::SmallVec;
 use std::alloc::Global;
 
 /// Each fraction with the other sign.
-fn negated(alloc: Global, entries: &[Entry]) -> Result<SmallVec<Entry, 2>, NoMemory>
+fn negated(alloc: Global, entries: &[Entry]) -> Result<Vec<Entry>, NoMemory>
     requires { IsRow entries.now }
     ensures { IfOk result (λ v. IsNegated entries.now v.items) }
 {
-    let Ok(mut out) = SmallVec::with_capacity(alloc, entries.len()) else {
+    let Ok(mut out) = Vec::with_capacity(alloc, entries.len()) else {
         return Err(NoMemory);
     };
     for entry in entries {
@@ -31,7 +30,7 @@ fn negated(alloc: Global, entries: &[Entry]) -> Result<SmallVec<Entry, 2>, NoMem
 }
 
 /// What a pivot is in each solution: the sum of the other unknowns of its row, each with its fraction's negative.
-fn pivot_sum(alloc: Global, row: &KeptRow) -> Result<SmallVec<Entry, 2>, NoMemory>
+fn pivot_sum(alloc: Global, row: &KeptRow) -> Result<Vec<Entry>, NoMemory>
     requires row { IsRow row.now.entries.items }
     requires leading { IsLeading (kept_of row.now) }
     ensures { IfOk result (λ v. IsPivotSum (kept_of row.now) v.items) }

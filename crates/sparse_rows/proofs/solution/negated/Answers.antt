@@ -11,7 +11,7 @@ loop-entry-preserved c =
     let i = c.loop-entry.entry-index in
     let a = c.entry-item.result in
     let h : i < length xs = c.loop-entry-test.true in
-    (turning-at xs i a (record { unknown = a.unknown; value = c.neg-value.result }) c.loop-entry.out.items c.push.new.self.items c.loop-entry.invariant.0 c.requires h c.entry-item.is refl c.neg-value.ensures.value c.in-Ok-push.ensures.ok, (omega (arith, h)))
+    (turning-at xs i a (record { unknown = a.unknown; value = c.neg-value.result }) c.loop-entry.out.items c.push.new.self.items c.loop-entry.invariant.0 c.requires h c.entry-item.is refl c.neg-value.ensures.value c.in-Ok-push.ensures.items, (omega (arith, h)))
 
 pub returns : goal.returns
 returns c = turning-end c.args.entries.now c.loop-entry.entry-index c.loop-entry.out.items c.loop-entry.invariant.0 c.loop-entry-test.false
