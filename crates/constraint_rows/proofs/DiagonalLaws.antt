@@ -6,6 +6,7 @@
 --   diagonals_skip, diagonals_more, diagonal_columns, told_lower, turned_marked    the diagonal elements by their rows
 use Rattle.std.proofs.Common.{◌≡◌, ◌≢◌, ℕ, ◌+◌, ◌<◌, ◌^◌, ◌⊎◌, Bool, true, false, List, [], ◌∷◌, ◌++◌, length, length-append, get_or, refl, ap, sym, ◌∙◌, arith, subst, inl, inr}
 use Rattle.std.proofs.lemmas.Bool.{cases_lt}
+use Rattle.tensor_laws.proofs.Indices.{axis_cases}
 use Rattle.std.proofs.lemmas.List.{get_or_append_left, get_or_default, get_or_push}
 use Rattle.number_laws.proofs.Sameness.{one_not_zero}
 use Rattle.number_laws.proofs.NumberLaws.{num_one-mul, num_mul_assoc, num_mul_comm, num_mul_left_comm}
@@ -53,24 +54,10 @@ module _ {m : Marks} {g : Operation} {p : PlainOp} (d : IsDiagonal g) (h : Stand
   off_value i j n = zero_number (entry g i j) (off_zero g d i j n)
 
   own_column : (i : Axis) → axis_at (image p (axis_place i)) ≡ i
-  own_column i = by (axis_at (image p (axis_place i))) refl
-    where
-      at : (j : Axis) → axis_at (image p (axis_place i)) ≡ j → i ≢ j → ⊥
-      at j e n = sign_not_zero _ (sym (h.entry i) ∙ ap (value g i) e ∙ off_value i j n)
-
-      decide : (i j : Axis) → (i ≢ j → ⊥) → j ≡ i
-      decide x1 x1 f = refl
-      decide x1 x2 f = absurd (f (λ e. cc))
-      decide x1 x3 f = absurd (f (λ e. cc))
-      decide x2 x1 f = absurd (f (λ e. cc))
-      decide x2 x2 f = refl
-      decide x2 x3 f = absurd (f (λ e. cc))
-      decide x3 x1 f = absurd (f (λ e. cc))
-      decide x3 x2 f = absurd (f (λ e. cc))
-      decide x3 x3 f = refl
-
-      by : (j : Axis) → axis_at (image p (axis_place i)) ≡ j → axis_at (image p (axis_place i)) ≡ i
-      by j e = e ∙ decide i j (at j e)
+  own_column i = elim (axis_cases i (axis_at (image p (axis_place i)))) [
+    | inl e ↦ sym e
+    | inr n ↦ absurd (sign_not_zero _ (sym (h.entry i) ∙ off_value i (axis_at (image p (axis_place i))) n))
+  ]
 
   own_moved : (is : Index) → moved p is ≡ is
   own_moved [] = refl
@@ -83,9 +70,6 @@ module _ {m : Marks} {g : Operation} {p : PlainOp} (d : IsDiagonal g) (h : Stand
       ∙ signed-signed p.whole (list_signs p (index_of r c)) num_one
       ∙ ap (λ s. signed s num_one) (sign_number h r c l)
 
-one_not_minus : num_one ≡ neg num_one → ⊥
-one_not_minus e = one_not_zero (own_negative num_one e)
-
 pub turns_by : {m : Marks} {g : Operation} {p : PlainOp} → IsDiagonal g → StandsFor m g p → (n r c : ℕ) → n ≡ 3 ^ r → c < n →
     op_sign r p c ≡ Minus → Turns m (index_of r c) g
 turns_by {m} {g} {p} d h n r c size l e = record {
@@ -95,7 +79,7 @@ turns_by {m} {g} {p} d h n r c size l e = record {
 pub not_turns_by : {m : Marks} {g : Operation} {p : PlainOp} → IsDiagonal g → StandsFor m g p → (n r c : ℕ) → n ≡ 3 ^ r → c < n →
     op_sign r p c ≡ Plus → Turns m (index_of r c) g → ⊥
 not_turns_by {m} {g} {p} d h n r c size l e t =
-    one_not_minus (sym (own_coefficient d h r c (subst (λ x. c < x) size l) ∙ ap (λ s. signed s num_one) e) ∙ t.turns)
+    one_not_zero (own_negative num_one (sym (own_coefficient d h r c (subst (λ x. c < x) size l) ∙ ap (λ s. signed s num_one) e) ∙ t.turns))
 
 -- ---- an exchange of blocks leaves the coefficient from a component to itself
 abbrev own : Operation → Index → Number

@@ -69,6 +69,20 @@ part_sum : (G : ℕ → ℕ → Number) (w : Word) (a b : Index → ℕ) (n q : 
     sum_indices (length w) (λ is. cond (belongs w is) (G (a is) (b is)) num_zero) ≡ sum_indices (length w) (of_index G n q w)
 part_sum G w a b n q e f = λ i. sum_indices (length w) (λ is. cond (belongs w is) (G (e is i) (f is i)) num_zero)
 
+-- after a letter other than z: an index 1, or an index 2 with a power of i
+two_sums : (G : ℕ → ℕ → Number) (w : Word) → ((n q : ℕ) → sum_indices (length w) (of_index G n q w) ≡ terms_sum G (terms_from n q w)) →
+    (n q p : ℕ) (b : Index → ℕ) → ((is : Index) → b is ≡ p + (twos is + 2 * minus_twos w is)) →
+    add (sum_indices (length w) (λ is. cond (belongs w is) (G (n * 3 ^ suc (length is) + (0 * 3 ^ length is + component_number is)) (q + (twos is + 2 * minus_twos w is))) num_zero))
+    (add (sum_indices (length w) (λ is. cond (belongs w is) (G (n * 3 ^ suc (length is) + (1 * 3 ^ length is + component_number is)) (b is)) num_zero)) (sum_indices (length w) (λ is. num_zero)))
+    ≡ terms_sum G (terms_from (3 * n) q w ++ terms_from (3 * n + 1) p w)
+two_sums G w told n q p b e =
+    let first = part_sum G w (λ is. n * 3 ^ suc (length is) + (0 * 3 ^ length is + component_number is)) (λ is. q + (twos is + 2 * minus_twos w is))
+    (3 * n) q (λ is. moved_on_zero n (component_number is) is) (λ is. refl) ∙ told (3 * n) q in
+    let second = part_sum G w (λ is. n * 3 ^ suc (length is) + (1 * 3 ^ length is + component_number is)) b
+    (3 * n + 1) p (λ is. moved_on n 1 (component_number is) is) e ∙ told (3 * n + 1) p in
+    (λ i. add (first i) (add (second i) (zero_sum (length w) i))) ∙ ap (add (terms_sum G (terms_from (3 * n) q w))) (num_add-zero _)
+    ∙ sym (terms_sum-append G (terms_from (3 * n) q w) (terms_from (3 * n + 1) p w))
+
 pub sum_terms : (G : ℕ → ℕ → Number) (w : Word) (n q : ℕ) → sum_indices (length w) (of_index G n q w) ≡ terms_sum G (terms_from n q w)
 sum_terms G [] n q =
     let e : n * 1 + 0 ≡ n = omega arith in
@@ -80,26 +94,8 @@ sum_terms G (level ∷ w) n q =
     part_sum G w (λ is. n * 3 ^ suc (length is) + (2 * 3 ^ length is + component_number is)) (λ is. q + (twos is + 2 * minus_twos w is))
     (3 * n + 2) q (λ is. moved_on n 2 (component_number is) is) (λ is. refl) ∙ sum_terms G w (3 * n + 2) q in
     (λ i. add (zero_sum r i) (add (zero_sum r i) (third i))) ∙ num_zero-add _ ∙ num_zero-add _
-sum_terms G (plus ∷ w) n q =
-    let r : ℕ = length w in
-    let first : sum_indices r (λ is. of_index G n q (plus ∷ w) (x1 ∷ is)) ≡ terms_sum G (terms_from (3 * n) q w) =
-    part_sum G w (λ is. n * 3 ^ suc (length is) + (0 * 3 ^ length is + component_number is)) (λ is. q + (twos is + 2 * minus_twos w is))
-    (3 * n) q (λ is. moved_on_zero n (component_number is) is) (λ is. refl) ∙ sum_terms G w (3 * n) q in
-    let second : sum_indices r (λ is. of_index G n q (plus ∷ w) (x2 ∷ is)) ≡ terms_sum G (terms_from (3 * n + 1) (q + 1) w) =
-    part_sum G w (λ is. n * 3 ^ suc (length is) + (1 * 3 ^ length is + component_number is)) (λ is. q + (1 + twos is + 2 * minus_twos w is))
-    (3 * n + 1) (q + 1) (λ is. moved_on n 1 (component_number is) is) (λ is. omega arith) ∙ sum_terms G w (3 * n + 1) (q + 1) in
-    (λ i. add (first i) (add (second i) (zero_sum r i))) ∙ ap (add (terms_sum G (terms_from (3 * n) q w))) (num_add-zero _)
-    ∙ sym (terms_sum-append G (terms_from (3 * n) q w) (terms_from (3 * n + 1) (q + 1) w))
-sum_terms G (minus ∷ w) n q =
-    let r : ℕ = length w in
-    let first : sum_indices r (λ is. of_index G n q (minus ∷ w) (x1 ∷ is)) ≡ terms_sum G (terms_from (3 * n) q w) =
-    part_sum G w (λ is. n * 3 ^ suc (length is) + (0 * 3 ^ length is + component_number is)) (λ is. q + (twos is + 2 * minus_twos w is))
-    (3 * n) q (λ is. moved_on_zero n (component_number is) is) (λ is. refl) ∙ sum_terms G w (3 * n) q in
-    let second : sum_indices r (λ is. of_index G n q (minus ∷ w) (x2 ∷ is)) ≡ terms_sum G (terms_from (3 * n + 1) (q + 3) w) =
-    part_sum G w (λ is. n * 3 ^ suc (length is) + (1 * 3 ^ length is + component_number is)) (λ is. q + (1 + twos is + 2 * (1 + minus_twos w is)))
-    (3 * n + 1) (q + 3) (λ is. moved_on n 1 (component_number is) is) (λ is. omega arith) ∙ sum_terms G w (3 * n + 1) (q + 3) in
-    (λ i. add (first i) (add (second i) (zero_sum r i))) ∙ ap (add (terms_sum G (terms_from (3 * n) q w))) (num_add-zero _)
-    ∙ sym (terms_sum-append G (terms_from (3 * n) q w) (terms_from (3 * n + 1) (q + 3) w))
+sum_terms G (plus ∷ w) n q = two_sums G w (sum_terms G w) n q (q + 1) (λ is. q + (1 + twos is + 2 * minus_twos w is)) (λ is. omega arith)
+sum_terms G (minus ∷ w) n q = two_sums G w (sum_terms G w) n q (q + 3) (λ is. q + (1 + twos is + 2 * (1 + minus_twos w is))) (λ is. omega arith)
 
 -- ---- the terms of a word: where they are, and how many
 -- with their powers of i
@@ -121,21 +117,14 @@ terms_below w n r size l =
     let one : 0 < 3 ^ 0 = lit< tt in
     each_map _ _ (λ t h. subst (λ m. t.component < m) (sym size) h.0) _ (terms_within w 0 0 0 one r (omega (arith, l)) (3 * length w) (omega arith))
 
+few_joined : (w : Word) (ts us : List Term) → length ts ≤ 3 ^ length w → length us ≤ 3 ^ length w → length (ts ++ us) ≤ 3 ^ suc (length w)
+few_joined w ts us h k = let c = length-append ts us in rw (pow-suc 3 (length w)) (omega (arith, c))
+
 pub terms_few : (w : Word) (n q : ℕ) → length (terms_from n q w) ≤ 3 ^ length w
 terms_few [] n q = omega arith
-terms_few (level ∷ w) n q =
-    let a : length (terms_from (3 * n + 2) q w) ≤ 3 ^ length w = terms_few w (3 * n + 2) q in
-    rw (pow-suc 3 (length w)) (omega arith)
-terms_few (plus ∷ w) n q =
-    let a : length (terms_from (3 * n) q w) ≤ 3 ^ length w = terms_few w (3 * n) q in
-    let b : length (terms_from (3 * n + 1) (q + 1) w) ≤ 3 ^ length w = terms_few w (3 * n + 1) (q + 1) in
-    let c = length-append (terms_from (3 * n) q w) (terms_from (3 * n + 1) (q + 1) w) in
-    rw (pow-suc 3 (length w)) (omega (arith, c))
-terms_few (minus ∷ w) n q =
-    let a : length (terms_from (3 * n) q w) ≤ 3 ^ length w = terms_few w (3 * n) q in
-    let b : length (terms_from (3 * n + 1) (q + 3) w) ≤ 3 ^ length w = terms_few w (3 * n + 1) (q + 3) in
-    let c = length-append (terms_from (3 * n) q w) (terms_from (3 * n + 1) (q + 3) w) in
-    rw (pow-suc 3 (length w)) (omega (arith, c))
+terms_few (level ∷ w) n q = few_joined w [] (terms_from (3 * n + 2) q w) (omega arith) (terms_few w (3 * n + 2) q)
+terms_few (plus ∷ w) n q = few_joined w (terms_from (3 * n) q w) (terms_from (3 * n + 1) (q + 1) w) (terms_few w (3 * n) q) (terms_few w (3 * n + 1) (q + 1))
+terms_few (minus ∷ w) n q = few_joined w (terms_from (3 * n) q w) (terms_from (3 * n + 1) (q + 3) w) (terms_few w (3 * n) q) (terms_few w (3 * n + 1) (q + 3))
 
 -- ---- what a component gives to a representative
 share_zero : (o : Option (Index × Number)) (u : Index) → share o num_zero u ≡ num_zero
