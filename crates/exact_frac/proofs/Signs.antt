@@ -4,8 +4,8 @@ use Rattle.std.specs.Prelude.{unsigned_abs}
 use lib.IntN.{ℤ, pos, negsuc, ◌*ℤ◌, neg_ℤ}
 use lib.Signed.{lt_z}
 use borrow.Author.Differences.{ints}
-use Rattle.tensor_defs.specs.Prelude.{neg-mul_ℤ, over}
-use Rattle.exact_frac.specs.Held.{signed, is_negative, quotient, opposite}
+use Rattle.tensor_defs.specs.Prelude.{neg-mul_ℤ}
+use Rattle.exact_frac.specs.Held.{signed, is_negative, opposite}
 
 pub size-neg : (n : ℤ) → unsigned_abs (neg_ℤ n) ≡ unsigned_abs n
 size-neg (pos zero) = refl

@@ -4,7 +4,7 @@
 --   pivot-sum    the sum
 --   IsTurning, turning-start, turning-at, turning-end    the other signs, entry by entry
 --   leading-at, solved-at, solved-end    all rows
-use Rattle.list_laws.proofs.Kit.{◌≡◌, ◌≢◌, ℕ, zero, suc, ◌+◌, ◌<◌, ◌≤◌, ◌↔◌, inl, inr, List, [], ◌∷◌, ◌++◌, length, take, drop, get_or, add-one, refl, ap}
+use Rattle.list_laws.proofs.Kit.{◌≡◌, ◌≢◌, ℕ, zero, suc, ◌+◌, ◌<◌, ◌≤◌, ◌↔◌, inl, inr, List, [], ◌∷◌, ◌++◌, length, take, drop, get_or, refl, ap}
 use Rattle.list_laws.proofs.Kit.{sym, ◌∙◌, subst, arith, false, cases_eq, cases_order, cases_Bool, drop_all, take_all, take_more}
 use Rattle.list_laws.proofs.Prelude.{drop_head, each_map, each_push, each_read, each_split, each_take}
 use Rattle.number_laws.proofs.Sameness.{one_not_zero}

@@ -8,7 +8,7 @@
 --   state-at, skip-at, keep-at, keep-fails, state-done    one row more
 --   difference-same, times-same, reduced-same, reducing_same, kept-same, cannot-same, err-same
 --       the same lists under other names
-use Rattle.list_laws.proofs.Kit.{length, get_or, drop, drop-cons, add-one, ◌≡◌, ◌≢◌, ℕ, zero, suc, ◌+◌, ◌-◌, ◌/◌, ◌<◌, ◌≤◌, inl, inr, List, [], ◌∷◌, ◌++◌}
+use Rattle.list_laws.proofs.Kit.{length, get_or, drop, ◌≡◌, ◌≢◌, ℕ, zero, suc, ◌+◌, ◌-◌, ◌/◌, ◌<◌, ◌≤◌, inl, inr, List, [], ◌∷◌, ◌++◌}
 use Rattle.list_laws.proofs.Kit.{refl, ap, sym, ◌∙◌, subst, arith, cases_Bool, cases_eq, cases_lt, drop_of_length-le, get_or_default}
 use Rattle.std.specs.Prelude.{Result, Ok, Err, IfErr, IsErrAnd, Bool, false}
 use Rattle.sparse_rows.specs.declared.entry.EliminateFault.{EliminateFault}
@@ -26,7 +26,7 @@ use Rattle.sparse_rows.proofs.Lines.{less-none, less-zero, reduced-keeps, undo, 
 use Rattle.exact_frac.specs.Held.{inverse_of, IsHeld}
 use Rattle.exact_frac.proofs.Parts.{inverse-mul}
 use Rattle.sparse_rows.specs.Rows.{part, coeff, Above, IsEntry, IsRow, IsDifference}
-use Rattle.sparse_rows.specs.KeptRows.{IsKeptRow, CannotKeep, IsEliminated, AreGivenRows, lines, kept_of, kepts, AreRows, IsReducedRow, IsScaledRow, CannotScale, IsClearedRow, AreCleared}
+use Rattle.sparse_rows.specs.KeptRows.{IsKeptRow, CannotKeep, IsEliminated, lines, kept_of, kepts, AreRows, IsReducedRow, IsScaledRow, IsClearedRow, AreCleared}
 use Rattle.sparse_rows.specs.declared.entry.Entry.{Entry}
 use Rattle.sparse_rows.specs.declared.entry.KeptRow.{KeptRow}
 use Rattle.sparse_rows.proofs.Merging.{part-own, part-other, coeff-below, coeff-head, coeff-tail, coeff-snoc, coeff-small, row_snoc, below_head, below_tail}

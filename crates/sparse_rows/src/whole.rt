@@ -19,9 +19,7 @@ pub fn row_of_whole(alloc: Global, entries: &[WholeEntry]) -> Result<Row, NoMemo
     requires { AreWhole entries.now }
     ensures { IfOk result (λ r. IsWholeRow entries.now r.entries.items) }
 {
-    let Ok(mut taken) = SmallVec::with_capacity(alloc, entries.len()) else {
-        return Err(NoMemory);
-    };
+    let mut taken = SmallVec::new(alloc);
     for entry in entries {
         let WholeEntry { unknown, number } = *entry;
         let value = Frac::of_whole(number);
