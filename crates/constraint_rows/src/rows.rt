@@ -40,9 +40,10 @@ impl<R: Rank> Row<R> {
         requires { AreParts R.LEN parts.now }
         ensures { IfOk result (λ row. row ≡ parts.now) }
     {
-        let parts = SmallVec::from_slice(alloc, parts)?;
+        let mut own = SmallVec::new(alloc);
+        own.extend_from_slice(parts)?;
         Ok(Row {
-            parts,
+            parts: own,
             of: PhantomData,
         })
     }
