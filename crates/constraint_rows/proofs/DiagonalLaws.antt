@@ -10,7 +10,7 @@ use Rattle.tensor_laws.proofs.Indices.{axis_cases}
 use Rattle.std.proofs.lemmas.List.{get_or_append_left, get_or_default, get_or_push}
 use Rattle.number_laws.proofs.Sameness.{one_not_zero}
 use Rattle.number_laws.proofs.NumberLaws.{num_one-mul, num_mul_assoc, num_mul_comm, num_mul_left_comm}
-use Rattle.tensor_defs.specs.Prelude.{IsDiagonal, IsPlain, IsUnit, OneUnit, Bracket, IsExchange, JahnSymbol, Number, mul, neg, num_zero, num_one, Axis, x1}
+use Rattle.tensor_defs.specs.Prelude.{IsDiagonal, IsPlain, IsUnit, OneUnit, Bracket, IsExchange, JahnSymbol, Number, mul, num_zero, num_one, Axis, x1}
 use Rattle.tensor_defs.specs.Prelude.{x2, x3, Operation, entry, nought, value, identity, Index, Marks, axis_place, axis_at, coefficient, index_of, sign}
 use Rattle.std.specs.Prelude.{Contains, ◌↔◌}
 use Rattle.tensor_defs.specs.declared.Sign.{Sign}
@@ -21,7 +21,7 @@ use Rattle.sign_moves.specs.Prelude.{entry_at, first_at, vanishes_at, AreSettled
 use Rattle.sign_moves.proofs.SignLaws.{own_negative, sign_not_zero, signed-signed}
 use Rattle.tensor_rank.specs.Carried.{Carried, rests, steps}
 use Rattle.constraint_rows.specs.declared.ops.PlainOp.{PlainOp}
-use Rattle.constraint_rows.specs.Prelude.{GroupStep, exchange, turn, AreDiagonals, IsMarked, IsTurned, IsTurnedEntry, Kills, Turns, AllHaveColumns, StandsFor}
+use Rattle.constraint_rows.specs.Prelude.{GroupStep, exchange, turn, AreDiagonals, IsMarked, IsTurned, IsTurnedEntry, Turns, AllHaveColumns, StandsFor}
 use Rattle.constraint_rows.specs.Prelude.{image, op_at, op_sign, IsKilled}
 use Rattle.constraint_rows.proofs.OpIndex.{moved, coefficient_own, list_signs, sign_number, signed_mul}
 use Rattle.constraint_rows.proofs.StandLaws.{zero_number}

@@ -1,6 +1,6 @@
 -- How a table of first components is made from a table of classes.
 --   best_taken    c is taken
-use Rattle.list_laws.proofs.Kit.{◌≡◌, ◌≢◌, ℕ, ◌+◌, ◌<◌, Bool, true, false, List, length, get_or, arith, ap, sym, ◌∙◌, subst, inl, inr, length-set}
+use Rattle.list_laws.proofs.Kit.{◌≡◌, ◌≢◌, ℕ, ◌+◌, ◌<◌, Bool, true, false, List, length, arith, ap, sym, ◌∙◌, subst, inl, inr, length-set}
 use Rattle.list_laws.proofs.Kit.{get_or-set_other, get_or-set_at, eqb_tells, cases_lt, cases_Bool}
 use Rattle.std.proofs.Common.{set}
 use Rattle.std.specs.Prelude.{slice_set}

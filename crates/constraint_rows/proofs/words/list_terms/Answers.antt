@@ -1,7 +1,7 @@
-use Rattle.list_laws.proofs.Kit.{◌≡◌, ◌≢◌, ◌+◌, ◌-◌, ◌*◌, ◌^◌, ◌<◌, ◌≤◌, ◌++◌, ◌∷◌, [], List, suc, cond, drop, length, map, nat_eq, ap, sym, ◌∙◌, arith, subst, refl, inl, inr}
+use Rattle.list_laws.proofs.Kit.{◌≡◌, ◌-◌, ◌*◌, ◌^◌, ◌<◌, ◌≤◌, ◌++◌, ◌∷◌, [], List, suc, cond, drop, length, map, nat_eq, ap, sym, ◌∙◌, arith, subst, refl, inl, inr}
 use Rattle.std.proofs.lemmas.Bool.{cases_eq}
 use Rattle.std.proofs.Math.Nat.{pow-suc}
-use Rattle.tensor_defs.specs.Prelude.{digit, index_of, Word}
+use Rattle.tensor_defs.specs.Prelude.{index_of, Word}
 use Rattle.tensor_rank.specs.IndexLaws.{nth}
 use Rattle.constraint_rows.specs.Gathering.{AreSmallTerms, letter_of, raised, terms_from, word_at}
 use Rattle.constraint_rows.specs.declared.words.Term.{Term}
