@@ -67,17 +67,12 @@ filter_from p P (w ∷ ws) e = elim (cases_Bool (p w)) as (λ _. Each P (filter 
 filter_to : (p : Word → Bool) (P : Word → Type 0) (ws : List Word) → Each P (filter p ws) →
     Each (λ w. p w ≡ true → P w) ws
 filter_to p P [] e = tt
-filter_to p P (w ∷ ws) e = elim (cases_Bool (p w)) [
-  | inl h ↦
-      let f : Each P (w ∷ filter p ws) = subst (λ b. Each P (cond b (w ∷ filter p ws) (filter p ws))) h e in
-      (λ _. f.0, filter_to p P ws f.1)
-  | inr h ↦
-      let f : Each P (filter p ws) = subst (λ b. Each P (cond b (w ∷ filter p ws) (filter p ws))) h e in
-      (λ g. absurd (clash (sym g ∙ h)), filter_to p P ws f)
-]
+filter_to p P (w ∷ ws) e = by (p w) (filter_to p P ws) e
   where
-    clash : true ≡ false → ⊥
-    clash g = cc
+    by : (b : Bool) → (Each P (filter p ws) → Each (λ w. p w ≡ true → P w) ws) → Each P (cond b (w ∷ filter p ws) (filter p ws)) →
+        (b ≡ true → P w) × Each (λ w. p w ≡ true → P w) ws
+    by true later f = (λ _. f.0, later f.1)
+    by false later f = (λ g. cc, later f)
 
 -- ---- a word with + and - exchanged
 pub exchanged_plus : (w : Word) → plus_count (exchanged w) ≡ minus_count w

@@ -2,14 +2,15 @@
 --   diagonal_plain    a diagonal operation is plain
 --   own_coefficient, turns_by, not_turns_by    it carries each component to itself
 --   own_carried, killed_along    an exchange of blocks leaves the coefficient from a component to itself
---   killed_at, killed_none, entry_more    an element of a list kills
---   diagonals_start, diagonals_skip, diagonals_more, diagonal_columns, told_lower, turned_marked    the diagonal elements by their rows
+--   entry_more    a fact of the entries at a push
+--   diagonals_skip, diagonals_more, diagonal_columns, told_lower, turned_marked    the diagonal elements by their rows
 use Rattle.std.proofs.Common.{◌≡◌, ◌≢◌, ℕ, ◌+◌, ◌<◌, ◌^◌, ◌⊎◌, Bool, true, false, List, [], ◌∷◌, ◌++◌, length, length-append, get_or, refl, ap, sym, ◌∙◌, arith, subst, inl, inr}
 use Rattle.std.proofs.lemmas.Bool.{cases_lt}
+use Rattle.tensor_laws.proofs.Indices.{axis_cases}
 use Rattle.std.proofs.lemmas.List.{get_or_append_left, get_or_default, get_or_push}
 use Rattle.number_laws.proofs.Sameness.{one_not_zero}
 use Rattle.number_laws.proofs.NumberLaws.{num_one-mul, num_mul_assoc, num_mul_comm, num_mul_left_comm}
-use Rattle.tensor_defs.specs.Prelude.{IsDiagonal, IsPlain, IsUnit, OneUnit, Bracket, IsExchange, JahnSymbol, Number, mul, neg, num_zero, num_one, Axis, x1}
+use Rattle.tensor_defs.specs.Prelude.{IsDiagonal, IsPlain, IsUnit, OneUnit, Bracket, IsExchange, JahnSymbol, Number, mul, num_zero, num_one, Axis, x1}
 use Rattle.tensor_defs.specs.Prelude.{x2, x3, Operation, entry, nought, value, identity, Index, Marks, axis_place, axis_at, coefficient, index_of, sign}
 use Rattle.std.specs.Prelude.{Contains, ◌↔◌}
 use Rattle.tensor_defs.specs.declared.Sign.{Sign}
@@ -20,7 +21,7 @@ use Rattle.sign_moves.specs.Prelude.{entry_at, first_at, vanishes_at, AreSettled
 use Rattle.sign_moves.proofs.SignLaws.{own_negative, sign_not_zero, signed-signed}
 use Rattle.tensor_rank.specs.Carried.{Carried, rests, steps}
 use Rattle.constraint_rows.specs.declared.ops.PlainOp.{PlainOp}
-use Rattle.constraint_rows.specs.Prelude.{GroupStep, exchange, turn, AreDiagonals, IsMarked, IsTurned, IsTurnedEntry, Kills, Turns, AllHaveColumns, StandsFor}
+use Rattle.constraint_rows.specs.Prelude.{GroupStep, exchange, turn, AreDiagonals, IsMarked, IsTurned, IsTurnedEntry, Turns, AllHaveColumns, StandsFor}
 use Rattle.constraint_rows.specs.Prelude.{image, op_at, op_sign, IsKilled}
 use Rattle.constraint_rows.proofs.OpIndex.{moved, coefficient_own, list_signs, sign_number, signed_mul}
 use Rattle.constraint_rows.proofs.StandLaws.{zero_number}
@@ -53,24 +54,10 @@ module _ {m : Marks} {g : Operation} {p : PlainOp} (d : IsDiagonal g) (h : Stand
   off_value i j n = zero_number (entry g i j) (off_zero g d i j n)
 
   own_column : (i : Axis) → axis_at (image p (axis_place i)) ≡ i
-  own_column i = by (axis_at (image p (axis_place i))) refl
-    where
-      at : (j : Axis) → axis_at (image p (axis_place i)) ≡ j → i ≢ j → ⊥
-      at j e n = sign_not_zero _ (sym (h.entry i) ∙ ap (value g i) e ∙ off_value i j n)
-
-      decide : (i j : Axis) → (i ≢ j → ⊥) → j ≡ i
-      decide x1 x1 f = refl
-      decide x1 x2 f = absurd (f (λ e. cc))
-      decide x1 x3 f = absurd (f (λ e. cc))
-      decide x2 x1 f = absurd (f (λ e. cc))
-      decide x2 x2 f = refl
-      decide x2 x3 f = absurd (f (λ e. cc))
-      decide x3 x1 f = absurd (f (λ e. cc))
-      decide x3 x2 f = absurd (f (λ e. cc))
-      decide x3 x3 f = refl
-
-      by : (j : Axis) → axis_at (image p (axis_place i)) ≡ j → axis_at (image p (axis_place i)) ≡ i
-      by j e = e ∙ decide i j (at j e)
+  own_column i = elim (axis_cases i (axis_at (image p (axis_place i)))) [
+    | inl e ↦ sym e
+    | inr n ↦ absurd (sign_not_zero _ (sym (h.entry i) ∙ off_value i (axis_at (image p (axis_place i))) n))
+  ]
 
   own_moved : (is : Index) → moved p is ≡ is
   own_moved [] = refl
@@ -83,9 +70,6 @@ module _ {m : Marks} {g : Operation} {p : PlainOp} (d : IsDiagonal g) (h : Stand
       ∙ signed-signed p.whole (list_signs p (index_of r c)) num_one
       ∙ ap (λ s. signed s num_one) (sign_number h r c l)
 
-one_not_minus : num_one ≡ neg num_one → ⊥
-one_not_minus e = one_not_zero (own_negative num_one e)
-
 pub turns_by : {m : Marks} {g : Operation} {p : PlainOp} → IsDiagonal g → StandsFor m g p → (n r c : ℕ) → n ≡ 3 ^ r → c < n →
     op_sign r p c ≡ Minus → Turns m (index_of r c) g
 turns_by {m} {g} {p} d h n r c size l e = record {
@@ -95,7 +79,7 @@ turns_by {m} {g} {p} d h n r c size l e = record {
 pub not_turns_by : {m : Marks} {g : Operation} {p : PlainOp} → IsDiagonal g → StandsFor m g p → (n r c : ℕ) → n ≡ 3 ^ r → c < n →
     op_sign r p c ≡ Plus → Turns m (index_of r c) g → ⊥
 not_turns_by {m} {g} {p} d h n r c size l e t =
-    one_not_minus (sym (own_coefficient d h r c (subst (λ x. c < x) size l) ∙ ap (λ s. signed s num_one) e) ∙ t.turns)
+    one_not_zero (own_negative num_one (sym (own_coefficient d h r c (subst (λ x. c < x) size l) ∙ ap (λ s. signed s num_one) e) ∙ t.turns))
 
 -- ---- an exchange of blocks leaves the coefficient from a component to itself
 abbrev own : Operation → Index → Number
@@ -136,21 +120,6 @@ killed_along {m} {H} {c} {d} same h = record {
 }
 
 -- ---- an element of a list kills
-pub killed_at : (m : Marks) (hs : List Operation) (c : Index) (k : ℕ) → k < length hs → Kills m c (get_or hs k identity) → IsKilled m (In hs) c
-killed_at m hs c k l h = record {
-  element = get_or hs k identity;
-  inside = (k, l, get_or_default hs k (get_or hs k identity) identity l);
-  diagonal = h.diagonal;
-  turns = h.turns.turns;
-}
-
-pub killed_none : (m : Marks) (hs : List Operation) (c : Index) →
-    ((k : ℕ) → k < length hs → Kills m c (get_or hs k identity) → ⊥) → IsKilled m (In hs) c → ⊥
-killed_none m hs c none h =
-    let k = h.inside.0 in
-    let at : get_or hs k identity ≡ h.element = get_or_default hs k identity h.element h.inside.1 ∙ h.inside.2 in
-    none k h.inside.1 (subst (Kills m c) (sym at) (record { diagonal = h.diagonal; turns = record { turns = h.turns } }))
-
 -- what holds of each entry and of one more
 pub entry_more : (P : ℕ → Entry → Type 0) (es : List Entry) (e : Entry) (n : ℕ) → length es ≡ n → ((k : ℕ) → k < n → P k (entry_at es k)) →
     P n e → (k : ℕ) → k < n + 1 → P k (entry_at (es ++ e ∷ []) k)
@@ -168,9 +137,6 @@ entry_more P es e n len each last k h =
 -- ---- the diagonal elements by their rows
 abbrev none : PlainOp
 none = record { images = []; negates = []; whole = Plus }
-
-pub diagonals_start : (m : Marks) (hs : List Operation) → AreDiagonals m hs 0 []
-diagonals_start m hs = record { found = λ k l. absurd (omega arith); all = λ k l. absurd (omega arith) }
 
 pub diagonals_skip : (m : Marks) (hs : List Operation) (place : ℕ) (ps : List PlainOp) (g : Operation) → get_or hs place identity ≡ g → (IsDiagonal g → ⊥) →
     AreDiagonals m hs place ps → AreDiagonals m hs (place + 1) ps

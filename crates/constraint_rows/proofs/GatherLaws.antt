@@ -1,12 +1,13 @@
 -- Parts of rows, with a number added at a component.
---   added_new, added_old, each_at_place, before_front, counted_kept    by the place of the component
+--   added_new, added_old, before_front, counted_kept    by the place of the component
 --   IsTotalBelow, order_total    a strict order that is total below n
 --   whole-add, part_is, row_at-added    what the parts have at a component
 --   IsGathering, class_part, term_part, terms_sum, gathering, row_at-gathered, gathered-append
 --       parts gathered from terms
---   each_term, gathered_small, gathered_more, nothing_and    parts gathered from some of the terms
+--   gathered_small, gathered_more, nothing_and    parts gathered from some of the terms
 use Rattle.list_laws.proofs.Kit.{[], ◌≡◌, ◌≢◌, ℕ, zero, suc, ◌+◌, ◌%◌, ◌^◌, ◌<◌, ◌≤◌, Bool, true, false, cond, List, ◌∷◌, ◌++◌, length, get_or, take, drop}
 use Rattle.list_laws.proofs.Kit.{refl, ap, sym, ◌∙◌, arith, subst, inl, inr, eqb-true, ne_eqb, both_ways, set_split, take_more, length-take-le, ints}
+use Rattle.list_laws.proofs.Members.{each_at, each_map, each_take}
 use Rattle.std.proofs.Common.{eq-eqb}
 use Rattle.std.specs.Prelude.{IsTrue, insert, nat_eq, unsigned_abs, Option, Some, None}
 use Rattle.std.proofs.Math.ListN.{set}
@@ -59,11 +60,6 @@ module _ (before : ℕ → ℕ → Bool) (d : ℕ) (k : ℤ) where
       added before d k ps ≡ counted_at ps i k
   added_old ps i h small same = added_old_at ps i small h.all h.stop same
 
-pub each_at_place : (P : Part → Type 0) (ps : List Part) → Each P ps → (k : ℕ) → k < length ps → P (part_at_place ps k)
-each_at_place P [] e k h = absurd (omega arith)
-each_at_place P (p ∷ ps) e zero h = e.0
-each_at_place P (p ∷ ps) e (suc k) h = each_at_place P ps e.1 k (omega arith)
-
 -- what lies before a part that comes before a component comes before it too
 pub before_front : (before : ℕ → ℕ → Bool) → ((a b c : ℕ) → before a b ≡ true → before b c ≡ true → before a c ≡ true) → (d : ℕ) (ps : List Part) →
     IsRising (parts_rise before) ps → (i : ℕ) → i < length ps → before (part_at_place ps i).component d ≡ true →
@@ -73,7 +69,7 @@ before_front before passes d (p ∷ ps) r zero h hit zero l = hit
 before_front before passes d (p ∷ ps) r zero h hit (suc k) l = absurd (omega arith)
 before_front before passes d (p ∷ ps) r (suc i) h hit zero l =
     passes p.component (part_at_place ps i).component d
-    (each_at_place (λ q. IsTrue (before p.component q.component)) ps r.0 i (omega arith)) hit
+    (each_at (λ q. IsTrue (before p.component q.component)) ps r.0 i (part 0 (pos 0)) (omega arith)) hit
 before_front before passes d (p ∷ ps) r (suc i) h hit (suc k) l = before_front before passes d ps r.1 i (omega arith) hit k (omega arith)
 
 pub counted_kept : (ps : List Part) (i : ℕ) (p : Part) (z k : ℤ) → i < length ps → p ≡ part_at_place ps i → z ≡ p.number +ℤ k → z ≢ pos 0 →
@@ -90,10 +86,6 @@ counted_kept ps i p z k h at is other =
     some (negsuc n) m = refl
 
 -- ---- what holds of each part
-each_map : (P Q : Part → Type 0) → ((p : Part) → P p → Q p) → (ps : List Part) → Each P ps → Each Q ps
-each_map P Q f [] e = tt
-each_map P Q f (p ∷ ps) e = (f p e.0, each_map P Q f ps e.1)
-
 module _ (before : ℕ → ℕ → Bool) (d : ℕ) (k : ℤ) where
   each_changed : (P Q : Part → Type 0) → ((p : Part) → P p → Q p) → Q (part d k) →
       ((p : Part) → P p → p.component ≡ d → is_nothing (p.number +ℤ k) ≡ false → Q (part d (p.number +ℤ k))) →
@@ -342,22 +334,11 @@ gathered-append before es b [] us ps = refl
 gathered-append before es b (t ∷ ts) us ps = gathered-append before es b ts us (term_added before es b t ps)
 
 -- ---- parts gathered from some of the terms
-each_take : (P : Term → Type 0) (ts : List Term) → Each P ts → (k : ℕ) → Each P (take k ts)
-each_take P [] e zero = tt
-each_take P [] e (suc k) = tt
-each_take P (t ∷ ts) e zero = tt
-each_take P (t ∷ ts) e (suc k) = (e.0, each_take P ts e.1 k)
-
-pub each_term : (P : Term → Type 0) (ts : List Term) → Each P ts → (k : ℕ) → k < length ts → (d : Term) → P (get_or ts k d)
-each_term P [] e k h d = absurd (omega arith)
-each_term P (t ∷ ts) e zero h d = e.0
-each_term P (t ∷ ts) e (suc k) h d = each_term P ts e.1 k (omega arith) d
-
 pub gathered_small : (n r : ℕ) → n ≡ 3 ^ r → (o : Ordering) (es : List Entry) → AreSound n (before_at r o) es → (b : ℕ) (ts : List Term) →
     AreTermsBelow n ts → length ts ≤ 729 → (k : ℕ) → k ≤ length ts → AreSmallParts n (before_at r o) 729 (gathered (before_at r o) es b (take k ts) [])
 gathered_small n r size o es sound b ts below few k h =
     let g = gathering n (before_at r o) (order_total n r size o) es sound b (take k ts)
-    (each_take (λ t. t.component < n) ts below.each k) 0 [] (record { parts = tt; rising = tt; own = tt; small = tt }) in
+    (each_take (λ t. t.component < n) ts k below.each) 0 [] (record { parts = tt; rising = tt; own = tt; small = tt }) in
     let l : length (take k ts) ≡ k = length-take-le k ts h in
     record {
       parts = g.parts;

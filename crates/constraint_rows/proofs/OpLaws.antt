@@ -25,9 +25,6 @@ abbrev turns : (ℕ → ℕ) → ℕ → ℕ → ℕ
 turns f zero d = d
 turns f (suc n) d = turns f n (f d)
 
-clash : (f : ℕ → ℕ) (d e v : ℕ) → ((d e : ℕ) → d < 3 → e < 3 → f d ≡ f e → d ≡ e) → d < 3 → e < 3 → d ≢ e → f d ≡ v → f e ≡ v → ⊥
-clash f d e v inj h k n p q = n (inj d e h k (p ∙ sym q))
-
 of_three : (f : ℕ → ℕ) → f (f (f (f (f (f 0))))) ≡ 0 → f (f (f (f (f (f 1))))) ≡ 1 → f (f (f (f (f (f 2))))) ≡ 2 → (d : ℕ) → d < 3 → turns f 6 d ≡ d
 of_three f a b c zero h = a
 of_three f a b c (suc zero) h = b
@@ -36,62 +33,13 @@ of_three f a b c (suc (suc (suc n))) h = absurd (omega arith)
 
 six_turns : (f : ℕ → ℕ) → ((d : ℕ) → d < 3 → f d < 3) → ((d e : ℕ) → d < 3 → e < 3 → f d ≡ f e → d ≡ e) → (d : ℕ) → d < 3 → turns f 6 d ≡ d
 six_turns f small inj d h =
-    let c01 : (v : ℕ) → f 0 ≡ v → f 1 ≡ v → ⊥ = λ v. clash f 0 1 v inj (lit< tt) (lit< tt) (λ e. cc) in
-    let c02 : (v : ℕ) → f 0 ≡ v → f 2 ≡ v → ⊥ = λ v. clash f 0 2 v inj (lit< tt) (lit< tt) (λ e. cc) in
-    let c12 : (v : ℕ) → f 1 ≡ v → f 2 ≡ v → ⊥ = λ v. clash f 1 2 v inj (lit< tt) (lit< tt) (λ e. cc) in
-    elim (cases_3 (f 0) (small 0 (lit< tt))) [
-      | inl p ↦ elim (cases_3 (f 1) (small 1 (lit< tt))) [
-        | inl q ↦ elim (cases_3 (f 2) (small 2 (lit< tt))) [
-          | inl s ↦ absurd (c01 0 p q)
-          | inr (inl s) ↦ absurd (c01 0 p q)
-          | inr (inr s) ↦ absurd (c01 0 p q)
-        ]
-        | inr (inl q) ↦ elim (cases_3 (f 2) (small 2 (lit< tt))) [
-          | inl s ↦ absurd (c02 0 p s)
-          | inr (inl s) ↦ absurd (c12 1 q s)
-          | inr (inr s) ↦ of_three f (cc) (cc) (cc) d h
-        ]
-        | inr (inr q) ↦ elim (cases_3 (f 2) (small 2 (lit< tt))) [
-          | inl s ↦ absurd (c02 0 p s)
-          | inr (inl s) ↦ of_three f (cc) (cc) (cc) d h
-          | inr (inr s) ↦ absurd (c12 2 q s)
-        ]
-      ]
-      | inr (inl p) ↦ elim (cases_3 (f 1) (small 1 (lit< tt))) [
-        | inl q ↦ elim (cases_3 (f 2) (small 2 (lit< tt))) [
-          | inl s ↦ absurd (c12 0 q s)
-          | inr (inl s) ↦ absurd (c02 1 p s)
-          | inr (inr s) ↦ of_three f (cc) (cc) (cc) d h
-        ]
-        | inr (inl q) ↦ elim (cases_3 (f 2) (small 2 (lit< tt))) [
-          | inl s ↦ absurd (c01 1 p q)
-          | inr (inl s) ↦ absurd (c01 1 p q)
-          | inr (inr s) ↦ absurd (c01 1 p q)
-        ]
-        | inr (inr q) ↦ elim (cases_3 (f 2) (small 2 (lit< tt))) [
-          | inl s ↦ of_three f (cc) (cc) (cc) d h
-          | inr (inl s) ↦ absurd (c02 1 p s)
-          | inr (inr s) ↦ absurd (c12 2 q s)
-        ]
-      ]
-      | inr (inr p) ↦ elim (cases_3 (f 1) (small 1 (lit< tt))) [
-        | inl q ↦ elim (cases_3 (f 2) (small 2 (lit< tt))) [
-          | inl s ↦ absurd (c12 0 q s)
-          | inr (inl s) ↦ of_three f (cc) (cc) (cc) d h
-          | inr (inr s) ↦ absurd (c02 2 p s)
-        ]
-        | inr (inl q) ↦ elim (cases_3 (f 2) (small 2 (lit< tt))) [
-          | inl s ↦ of_three f (cc) (cc) (cc) d h
-          | inr (inl s) ↦ absurd (c12 1 q s)
-          | inr (inr s) ↦ absurd (c02 2 p s)
-        ]
-        | inr (inr q) ↦ elim (cases_3 (f 2) (small 2 (lit< tt))) [
-          | inl s ↦ absurd (c01 2 p q)
-          | inr (inl s) ↦ absurd (c01 2 p q)
-          | inr (inr s) ↦ absurd (c01 2 p q)
-        ]
-      ]
-    ]
+    let s0 = cases_3 (f 0) (small 0 (lit< tt)) in
+    let s1 = cases_3 (f 1) (small 1 (lit< tt)) in
+    let s2 = cases_3 (f 2) (small 2 (lit< tt)) in
+    let n01 : f 0 ≢ f 1 = λ e. let n = inj 0 1 (lit< tt) (lit< tt) e in cc in
+    let n02 : f 0 ≢ f 2 = λ e. let n = inj 0 2 (lit< tt) (lit< tt) e in cc in
+    let n12 : f 1 ≢ f 2 = λ e. let n = inj 1 2 (lit< tt) (lit< tt) e in cc in
+    of_three f (grind (arith, s0, s1, s2, n01, n02, n12)) (grind (arith, s0, s1, s2, n01, n02, n12)) (grind (arith, s0, s1, s2, n01, n02, n12)) d h
 
 abbrev again : ℕ → PlainOp → ℕ → ℕ → ℕ
 again r op zero c = c

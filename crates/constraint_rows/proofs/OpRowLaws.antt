@@ -9,7 +9,7 @@ use Rattle.tensor_rank.specs.Prelude.{digit_of, number_of, number_of-same}
 use Rattle.tensor_rank.proofs.ExchangeLaws.{power_small}
 use Rattle.tensor_rank.proofs.ExchangeRowLaws.{digit_front, digit_last}
 use Rattle.constraint_rows.specs.declared.ops.PlainOp.{PlainOp}
-use Rattle.constraint_rows.specs.Prelude.{image, entry_sign, signs_of, op_carried, op_sign, HasColumns, op_step, op_part, IsOpRow}
+use Rattle.constraint_rows.specs.Prelude.{image, entry_sign, signs_of, op_carried, HasColumns, op_step, op_part, IsOpRow}
 use Rattle.constraint_rows.proofs.OpLaws.{signs_of-same}
 
 step_of_part : (r : ℕ) (op : PlainOp) (k d : ℕ) → d < 3 → step_at (op_part r op k) d ≡ op_step op (3 ^ (r - 1 - k)) d

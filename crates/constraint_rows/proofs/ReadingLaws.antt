@@ -3,7 +3,7 @@
 --   three_stand    three rows stand for the operation
 use Rattle.std.proofs.Common.{◌≡◌, ◌≢◌, Bool, true, false, cond, get_or, refl, ap, sym, ◌∙◌, subst, ◌⊎◌, inl, inr, lit<}
 use Rattle.tensor_laws.proofs.ActionLaws.{half_of_two, half_of_minus_two}
-use Rattle.tensor_defs.specs.Prelude.{Number, neg, num_zero, num_one, whole, IsUnit, OneUnit, IsPlain, Axis, x1, x2, x3, Operation, entry, value, Marks, sign}
+use Rattle.tensor_defs.specs.Prelude.{Number, neg, num_zero, num_one, IsUnit, OneUnit, IsPlain, Axis, x1, x2, x3, Operation, entry, value, Marks, sign}
 use Rattle.tensor_defs.specs.Prelude.{axis_place, axis_at}
 use Rattle.tensor_defs.specs.Operation as defs
 use Rattle.tensor_defs.specs.declared.Sign.TheVariants.{Plus, Minus}

@@ -1,15 +1,17 @@
 -- The words by their numbers, and their rows as sums over the components that belong to them.
 --   sum_terms    sums over the components that belong to a word
---   terms_below, terms_few    the terms of a word: where they are, and how many
+--   terms_within, terms_few    the terms of a word: where they are, and how many
 --   row_sum_terms, length_letters, length_word, carried_row    what a component gives to a representative
 --   words_listed    the words in their order
 --   word_unused, word_used    the rows of one more word
 --   letters_more, letter_one, letter_two, letter_three, letter_split, letter_split_back ..
 --       the letters of a word from a place on
-use Rattle.std.proofs.Common.{[], ◌≡◌, ◌≢◌, ℕ, zero, suc, ◌+◌, ◌-◌, ◌*◌, ◌/◌, ◌%◌, ◌^◌, ◌<◌, ◌≤◌, Bool, true, false, cond, List, ◌∷◌, ◌++◌, length, drop, map, refl, ap, sym, ◌∙◌, arith, subst, inl, inr, eq-eqb, append_assoc, append-nil, lit<}
+use Rattle.std.proofs.Common.{[], ◌≡◌, ◌≢◌, ℕ, zero, suc, ◌+◌, ◌-◌, ◌*◌, ◌/◌, ◌%◌, ◌^◌, ◌<◌, ◌≤◌, Bool, true, false, cond, List, ◌∷◌, ◌++◌, length, drop, get_or, map, take, refl, ap, sym, ◌∙◌, arith, subst, inl, inr, eq-eqb, append_assoc, append-nil, lit<}
 use Rattle.std.specs.Prelude.{filter, nat_eq, Option, Some, None, unsigned_abs}
 use Rattle.std.proofs.lemmas.Bool.{eqb-true, cases_Bool}
-use Rattle.std.proofs.lemmas.List.{drop_all, map_push, length-append}
+use Rattle.std.proofs.lemmas.List.{drop_all, map_push, length-append, length-drop, map-append}
+use Rattle.std.proofs.Math.ListN.{set}
+use Rattle.list_laws.proofs.Members.{each_append, each_map}
 use Rattle.std.proofs.lemmas.List.Elements.{filter-append}
 use Rattle.std.proofs.lemmas.Nat.{div-mul-add, mod-mul-add}
 use Rattle.tensor_laws.proofs.Prelude.{same_own, same_told, sum_indices-agree, length-index_of, number-index_of}
@@ -26,6 +28,7 @@ use Rattle.sign_moves.specs.declared.classes.Entry.{Entry}
 use Rattle.sign_moves.specs.Signs.{times, signed}
 use Rattle.sign_moves.proofs.SignLaws.{signed-signed}
 use Rattle.tensor_rank.specs.IndexLaws.{component_below_at, nth}
+use Rattle.constraint_rows.specs.Gathering.{AreSmallTerms, raised}
 use Rattle.constraint_rows.specs.Prelude.{class_at, AreRowsBelow, AreTermsBelow, letter_of, letters, word_at, words_below, terms_from, turn_sign, part_row}
 use Rattle.constraint_rows.specs.Prelude.{part, unit, gathered, AreSound, AreWordRows, IsCarriedRow, carrier_of, carried_to}
 use Rattle.constraint_rows.specs.declared.rows.Part.{Part}
@@ -66,6 +69,20 @@ part_sum : (G : ℕ → ℕ → Number) (w : Word) (a b : Index → ℕ) (n q : 
     sum_indices (length w) (λ is. cond (belongs w is) (G (a is) (b is)) num_zero) ≡ sum_indices (length w) (of_index G n q w)
 part_sum G w a b n q e f = λ i. sum_indices (length w) (λ is. cond (belongs w is) (G (e is i) (f is i)) num_zero)
 
+-- after a letter other than z: an index 1, or an index 2 with a power of i
+two_sums : (G : ℕ → ℕ → Number) (w : Word) → ((n q : ℕ) → sum_indices (length w) (of_index G n q w) ≡ terms_sum G (terms_from n q w)) →
+    (n q p : ℕ) (b : Index → ℕ) → ((is : Index) → b is ≡ p + (twos is + 2 * minus_twos w is)) →
+    add (sum_indices (length w) (λ is. cond (belongs w is) (G (n * 3 ^ suc (length is) + (0 * 3 ^ length is + component_number is)) (q + (twos is + 2 * minus_twos w is))) num_zero))
+    (add (sum_indices (length w) (λ is. cond (belongs w is) (G (n * 3 ^ suc (length is) + (1 * 3 ^ length is + component_number is)) (b is)) num_zero)) (sum_indices (length w) (λ is. num_zero)))
+    ≡ terms_sum G (terms_from (3 * n) q w ++ terms_from (3 * n + 1) p w)
+two_sums G w told n q p b e =
+    let first = part_sum G w (λ is. n * 3 ^ suc (length is) + (0 * 3 ^ length is + component_number is)) (λ is. q + (twos is + 2 * minus_twos w is))
+    (3 * n) q (λ is. moved_on_zero n (component_number is) is) (λ is. refl) ∙ told (3 * n) q in
+    let second = part_sum G w (λ is. n * 3 ^ suc (length is) + (1 * 3 ^ length is + component_number is)) b
+    (3 * n + 1) p (λ is. moved_on n 1 (component_number is) is) e ∙ told (3 * n + 1) p in
+    (λ i. add (first i) (add (second i) (zero_sum (length w) i))) ∙ ap (add (terms_sum G (terms_from (3 * n) q w))) (num_add-zero _)
+    ∙ sym (terms_sum-append G (terms_from (3 * n) q w) (terms_from (3 * n + 1) p w))
+
 pub sum_terms : (G : ℕ → ℕ → Number) (w : Word) (n q : ℕ) → sum_indices (length w) (of_index G n q w) ≡ terms_sum G (terms_from n q w)
 sum_terms G [] n q =
     let e : n * 1 + 0 ≡ n = omega arith in
@@ -77,59 +94,37 @@ sum_terms G (level ∷ w) n q =
     part_sum G w (λ is. n * 3 ^ suc (length is) + (2 * 3 ^ length is + component_number is)) (λ is. q + (twos is + 2 * minus_twos w is))
     (3 * n + 2) q (λ is. moved_on n 2 (component_number is) is) (λ is. refl) ∙ sum_terms G w (3 * n + 2) q in
     (λ i. add (zero_sum r i) (add (zero_sum r i) (third i))) ∙ num_zero-add _ ∙ num_zero-add _
-sum_terms G (plus ∷ w) n q =
-    let r : ℕ = length w in
-    let first : sum_indices r (λ is. of_index G n q (plus ∷ w) (x1 ∷ is)) ≡ terms_sum G (terms_from (3 * n) q w) =
-    part_sum G w (λ is. n * 3 ^ suc (length is) + (0 * 3 ^ length is + component_number is)) (λ is. q + (twos is + 2 * minus_twos w is))
-    (3 * n) q (λ is. moved_on_zero n (component_number is) is) (λ is. refl) ∙ sum_terms G w (3 * n) q in
-    let second : sum_indices r (λ is. of_index G n q (plus ∷ w) (x2 ∷ is)) ≡ terms_sum G (terms_from (3 * n + 1) (q + 1) w) =
-    part_sum G w (λ is. n * 3 ^ suc (length is) + (1 * 3 ^ length is + component_number is)) (λ is. q + (1 + twos is + 2 * minus_twos w is))
-    (3 * n + 1) (q + 1) (λ is. moved_on n 1 (component_number is) is) (λ is. omega arith) ∙ sum_terms G w (3 * n + 1) (q + 1) in
-    (λ i. add (first i) (add (second i) (zero_sum r i))) ∙ ap (add (terms_sum G (terms_from (3 * n) q w))) (num_add-zero _)
-    ∙ sym (terms_sum-append G (terms_from (3 * n) q w) (terms_from (3 * n + 1) (q + 1) w))
-sum_terms G (minus ∷ w) n q =
-    let r : ℕ = length w in
-    let first : sum_indices r (λ is. of_index G n q (minus ∷ w) (x1 ∷ is)) ≡ terms_sum G (terms_from (3 * n) q w) =
-    part_sum G w (λ is. n * 3 ^ suc (length is) + (0 * 3 ^ length is + component_number is)) (λ is. q + (twos is + 2 * minus_twos w is))
-    (3 * n) q (λ is. moved_on_zero n (component_number is) is) (λ is. refl) ∙ sum_terms G w (3 * n) q in
-    let second : sum_indices r (λ is. of_index G n q (minus ∷ w) (x2 ∷ is)) ≡ terms_sum G (terms_from (3 * n + 1) (q + 3) w) =
-    part_sum G w (λ is. n * 3 ^ suc (length is) + (1 * 3 ^ length is + component_number is)) (λ is. q + (1 + twos is + 2 * (1 + minus_twos w is)))
-    (3 * n + 1) (q + 3) (λ is. moved_on n 1 (component_number is) is) (λ is. omega arith) ∙ sum_terms G w (3 * n + 1) (q + 3) in
-    (λ i. add (first i) (add (second i) (zero_sum r i))) ∙ ap (add (terms_sum G (terms_from (3 * n) q w))) (num_add-zero _)
-    ∙ sym (terms_sum-append G (terms_from (3 * n) q w) (terms_from (3 * n + 1) (q + 3) w))
+sum_terms G (plus ∷ w) n q = two_sums G w (sum_terms G w) n q (q + 1) (λ is. q + (1 + twos is + 2 * minus_twos w is)) (λ is. omega arith)
+sum_terms G (minus ∷ w) n q = two_sums G w (sum_terms G w) n q (q + 3) (λ is. q + (1 + twos is + 2 * (1 + minus_twos w is))) (λ is. omega arith)
 
 -- ---- the terms of a word: where they are, and how many
-each_append : (P : Term → Type 0) (ts us : List Term) → Each P ts → Each P us → Each P (ts ++ us)
-each_append P [] us p q = q
-each_append P (t ∷ ts) us p q = (p.0, each_append P ts us p.1 q)
+-- with their powers of i
+pub terms_within : (w : Word) (n q k : ℕ) → n < 3 ^ k → (m : ℕ) → m ≡ k + length w → (b : ℕ) → q + 3 * length w ≤ b →
+    Each (λ t. (t.component < 3 ^ m) × (t.quarters ≤ b)) (terms_from n q w)
+terms_within [] n q k h m e b f = ((subst (λ j. n < 3 ^ j) (let s : k ≡ m = omega arith in s) h, omega (arith, f)), tt)
+terms_within (level ∷ w) n q k h m e b f = terms_within w (3 * n + 2) q (suc k) (rw (pow-suc 3 k) (omega arith)) m (omega arith) b (omega (arith, f))
+terms_within (plus ∷ w) n q k h m e b f =
+    each_append _ (terms_from (3 * n) q w) (terms_from (3 * n + 1) (q + 1) w)
+    (terms_within w (3 * n) q (suc k) (rw (pow-suc 3 k) (omega arith)) m (omega arith) b (omega (arith, f)))
+    (terms_within w (3 * n + 1) (q + 1) (suc k) (rw (pow-suc 3 k) (omega arith)) m (omega arith) b (omega (arith, f)))
+terms_within (minus ∷ w) n q k h m e b f =
+    each_append _ (terms_from (3 * n) q w) (terms_from (3 * n + 1) (q + 3) w)
+    (terms_within w (3 * n) q (suc k) (rw (pow-suc 3 k) (omega arith)) m (omega arith) b (omega (arith, f)))
+    (terms_within w (3 * n + 1) (q + 3) (suc k) (rw (pow-suc 3 k) (omega arith)) m (omega arith) b (omega (arith, f)))
 
-pub terms_below : (w : Word) (n q k : ℕ) → n < 3 ^ k → (m : ℕ) → m ≡ k + length w → Each (λ t. t.component < 3 ^ m) (terms_from n q w)
-terms_below [] n q k h m e = (subst (λ j. n < 3 ^ j) (let s : k ≡ m = omega arith in s) h, tt)
-terms_below (level ∷ w) n q k h m e = terms_below w (3 * n + 2) q (suc k) (rw (pow-suc 3 k) (omega arith)) m (omega arith)
-terms_below (plus ∷ w) n q k h m e =
-    each_append (λ t. t.component < 3 ^ m) (terms_from (3 * n) q w) (terms_from (3 * n + 1) (q + 1) w)
-    (terms_below w (3 * n) q (suc k) (rw (pow-suc 3 k) (omega arith)) m (omega arith))
-    (terms_below w (3 * n + 1) (q + 1) (suc k) (rw (pow-suc 3 k) (omega arith)) m (omega arith))
-terms_below (minus ∷ w) n q k h m e =
-    each_append (λ t. t.component < 3 ^ m) (terms_from (3 * n) q w) (terms_from (3 * n + 1) (q + 3) w)
-    (terms_below w (3 * n) q (suc k) (rw (pow-suc 3 k) (omega arith)) m (omega arith))
-    (terms_below w (3 * n + 1) (q + 3) (suc k) (rw (pow-suc 3 k) (omega arith)) m (omega arith))
+terms_below : (w : Word) (n r : ℕ) → n ≡ 3 ^ r → length w ≡ r → Each (λ t. t.component < n) (terms_from 0 0 w)
+terms_below w n r size l =
+    let one : 0 < 3 ^ 0 = lit< tt in
+    each_map _ _ (λ t h. subst (λ m. t.component < m) (sym size) h.0) _ (terms_within w 0 0 0 one r (omega (arith, l)) (3 * length w) (omega arith))
+
+few_joined : (w : Word) (ts us : List Term) → length ts ≤ 3 ^ length w → length us ≤ 3 ^ length w → length (ts ++ us) ≤ 3 ^ suc (length w)
+few_joined w ts us h k = let c = length-append ts us in rw (pow-suc 3 (length w)) (omega (arith, c))
 
 pub terms_few : (w : Word) (n q : ℕ) → length (terms_from n q w) ≤ 3 ^ length w
 terms_few [] n q = omega arith
-terms_few (level ∷ w) n q =
-    let a : length (terms_from (3 * n + 2) q w) ≤ 3 ^ length w = terms_few w (3 * n + 2) q in
-    rw (pow-suc 3 (length w)) (omega arith)
-terms_few (plus ∷ w) n q =
-    let a : length (terms_from (3 * n) q w) ≤ 3 ^ length w = terms_few w (3 * n) q in
-    let b : length (terms_from (3 * n + 1) (q + 1) w) ≤ 3 ^ length w = terms_few w (3 * n + 1) (q + 1) in
-    let c = length-append (terms_from (3 * n) q w) (terms_from (3 * n + 1) (q + 1) w) in
-    rw (pow-suc 3 (length w)) (omega (arith, c))
-terms_few (minus ∷ w) n q =
-    let a : length (terms_from (3 * n) q w) ≤ 3 ^ length w = terms_few w (3 * n) q in
-    let b : length (terms_from (3 * n + 1) (q + 3) w) ≤ 3 ^ length w = terms_few w (3 * n + 1) (q + 3) in
-    let c = length-append (terms_from (3 * n) q w) (terms_from (3 * n + 1) (q + 3) w) in
-    rw (pow-suc 3 (length w)) (omega (arith, c))
+terms_few (level ∷ w) n q = few_joined w [] (terms_from (3 * n + 2) q w) (omega arith) (terms_few w (3 * n + 2) q)
+terms_few (plus ∷ w) n q = few_joined w (terms_from (3 * n) q w) (terms_from (3 * n + 1) (q + 1) w) (terms_few w (3 * n) q) (terms_few w (3 * n + 1) (q + 1))
+terms_few (minus ∷ w) n q = few_joined w (terms_from (3 * n) q w) (terms_from (3 * n + 1) (q + 3) w) (terms_few w (3 * n) q) (terms_few w (3 * n + 1) (q + 3))
 
 -- ---- what a component gives to a representative
 share_zero : (o : Option (Index × Number)) (u : Index) → share o num_zero u ≡ num_zero
@@ -227,9 +222,7 @@ pub carried_row : (n r : ℕ) → n ≡ 3 ^ r → n ≤ 729 → (before : ℕ �
     AreSound n before es → (b : ℕ) (w : Word) → length w ≡ r →
     IsCarriedRow r before es (part_row b w) (gathered before es b (terms_from 0 0 w) [])
 carried_row n r size fits before order es sound b w l =
-    let one : 0 < 3 ^ 0 = lit< tt in
-    let where_they_are : Each (λ t. t.component < n) (terms_from 0 0 w) =
-    subst (λ m. Each (λ t. t.component < m) (terms_from 0 0 w)) (sym size) (terms_below w 0 0 0 one r (omega arith)) in
+    let where_they_are = terms_below w n r size l in
     let few : length (terms_from 0 0 w) ≤ 3 ^ r = subst (λ m. length (terms_from 0 0 w) ≤ 3 ^ m) l (terms_few w 0 0) in
     let g : IsGathering n before es (0 + length (terms_from 0 0 w)) (gathered before es b (terms_from 0 0 w) []) =
     gathering n before order es sound b (terms_from 0 0 w) where_they_are 0 [] (record { parts = tt; rising = tt; own = tt; small = tt }) in
@@ -301,12 +294,6 @@ module _ (r : ℕ) (before : ℕ → ℕ → Bool) (es : List Entry) (chosen : W
       ap (λ m. filter chosen (words_below r m)) next
       ∙ filter-append chosen (words_below r n) (word_at r n ∷ []) ∙ ap (λ ws. filter chosen (words_below r n) ++ ws) (one_chosen (word_at r n) u e)
 
-  pub word_passed : (n : ℕ) (rows : List (List Part)) → chosen (word_at r n) ≡ false → AreRowsBelow r before es chosen n rows →
-      AreRowsBelow r before es chosen (n + 1) rows
-  word_passed n rows e h = record {
-    gone = subst (λ ws. AreWordRows r before es ws rows) (sym (chosen_more n false e ∙ append-nil (filter chosen (words_below r n)))) h.gone;
-  }
-
   pub word_taken : (n : ℕ) (rows : List (List Part)) (a b : List Part) → chosen (word_at r n) ≡ true → AreRowsBelow r before es chosen n rows →
       IsCarriedRow r before es (even_row (word_at r n)) a → IsCarriedRow r before es (odd_row (word_at r n)) b →
       AreRowsBelow r before es chosen (n + 1) (rows ++ a ∷ b ∷ [])
@@ -351,29 +338,92 @@ letter_split_back r n p l h k e =
 pub no_letter : (r n p : ℕ) → r ≤ p → drop p (word_at r n) ≡ []
 no_letter r n p h = let l = length_word r n in drop_all p (word_at r n) (omega (arith, l))
 
-pub terms_split : (i : Axis) (n q t : ℕ) (w : Word) → digit i ≢ 1 → t ≡ cond (nat_eq (digit i) 2) 1 3 →
-    terms_from (3 * n) q w ++ terms_from (3 * n + 1) (q + t) w ≡ terms_from n q (letter_of i ∷ w)
-terms_split x1 n q t w a e = absurd (a refl)
-terms_split x2 n q t w a e = ap (λ m. terms_from (3 * n) q w ++ terms_from (3 * n + 1) (q + m) w) e
-terms_split x3 n q t w a e = ap (λ m. terms_from (3 * n) q w ++ terms_from (3 * n + 1) (q + m) w) e
-
 -- the terms of a whole word
 pub word_terms_below : (n r c : ℕ) → n ≡ 3 ^ r → AreTermsBelow n (terms_from 0 0 (word_at r c))
-word_terms_below n r c size = record {
-  each =
-      let one : 0 < 3 ^ 0 = lit< tt in
-      let l = length_word r c in
-      subst (λ m. Each (λ t. t.component < m) (terms_from 0 0 (word_at r c))) (sym size) (terms_below (word_at r c) 0 0 0 one r (omega (arith, l)));
-}
+word_terms_below n r c size = record { each = terms_below (word_at r c) n r size (length_word r c) }
 
 pub word_terms_few : (n r c : ℕ) → n ≡ 3 ^ r → n ≤ 729 → length (terms_from 0 0 (word_at r c)) ≤ 729
 word_terms_few n r c size fits =
     let few : length (terms_from 0 0 (word_at r c)) ≤ 3 ^ r = subst (λ m. length (terms_from 0 0 (word_at r c)) ≤ 3 ^ m) (length_word r c) (terms_few (word_at r c) 0 0) in
     omega (arith, few, size)
 
--- a number below 3 ^ k is small
-pub number_fits : (n k r : ℕ) → n < 3 ^ k → k ≤ r → r ≤ 6 → n < 729
-number_fits n k r h l m = let p : 3 ^ k ≤ 729 = power_small k (omega arith) in omega arith
+-- ---- a letter in front
+pub small_weight : (k : ℕ) → k ≤ 5 → 3 ^ k ≤ 243
+small_weight k h = let p : 3 ^ suc k ≤ 729 = power_small (suc k) (omega arith) in let e = pow-suc 3 k in omega (arith, p, e)
+
+-- a list of terms, raised as far as a place
+pub raised_read : (f : Term → Term) (ts : List Term) (i : ℕ) (t : Term) → i < length ts → get_or (map f (take i ts) ++ drop i ts) i t ≡ get_or ts i t
+raised_read f [] i t h = absurd (omega arith)
+raised_read f (u ∷ ts) zero t h = refl
+raised_read f (u ∷ ts) (suc i) t h = raised_read f ts i t (omega arith)
+
+pub raised_more : (f : Term → Term) (ts : List Term) (i : ℕ) (t : Term) → i < length ts → t ≡ get_or ts i t →
+    set (map f (take i ts) ++ drop i ts) i (f t) ≡ map f (take (suc i) ts) ++ drop (suc i) ts
+raised_more f [] i t h e = absurd (omega arith)
+raised_more f (u ∷ ts) zero t h e = ap (λ x. f x ∷ ts) e
+raised_more f (u ∷ ts) (suc i) t h e = ap (λ us. f u ∷ us) (raised_more f ts i t (omega arith) e)
+
+raised_twice : (a b c d : ℕ) (ts : List Term) → map (raised a b) (map (raised c d) ts) ≡ map (raised (c + a) (d + b)) ts
+raised_twice a b c d [] = refl
+raised_twice a b c d (t ∷ ts) =
+    λ i. record { component = assoc t.component c a i; quarters = assoc t.quarters d b i } ∷ raised_twice a b c d ts i
+  where
+    assoc : (x y z : ℕ) → x + y + z ≡ x + (y + z)
+    assoc x y z = omega arith
+
+raised_on : (w : Word) → ((n q : ℕ) → terms_from n q w ≡ map (raised (n * 3 ^ length w) q) (terms_from 0 0 w)) →
+    (n q j t m p : ℕ) → m ≡ 3 * n + j → p ≡ q + t → terms_from m p w ≡ map (raised (n * 3 ^ suc (length w)) q) (terms_from j t w)
+raised_on w is n q j t m p e f =
+    let k : ℕ = 3 ^ length w in
+    let one : m * k ≡ j * k + n * 3 ^ suc (length w) =
+    ap (λ x. x * k) e ∙ spread n j k ∙ ap (λ x. j * k + n * x) (sym (pow-suc 3 (length w))) in
+    let two : p ≡ t + q = omega (arith, f) in
+    is m p ∙ (λ i. map (raised (one i) (two i)) (terms_from 0 0 w))
+    ∙ sym (raised_twice (n * 3 ^ suc (length w)) q (j * k) t (terms_from 0 0 w))
+    ∙ ap (map (raised (n * 3 ^ suc (length w)) q)) (sym (is j t))
+  where
+    spread : (n j k : ℕ) → (3 * n + j) * k ≡ j * k + n * (k * 3)
+    spread n j k = omega arith
+
+-- the terms after those of the number n and the power q are those of the word itself, raised
+terms_raised : (w : Word) (n q : ℕ) → terms_from n q w ≡ map (raised (n * 3 ^ length w) q) (terms_from 0 0 w)
+terms_raised [] n q =
+    let one : n ≡ 0 + n * 1 = omega arith in
+    let two : q ≡ 0 + q = omega arith in
+    λ i. record { component = one i; quarters = two i } ∷ []
+terms_raised (level ∷ w) n q = raised_on w (terms_raised w) n q 2 0 (3 * n + 2) q refl (omega arith)
+terms_raised (plus ∷ w) n q =
+    (λ i. raised_on w (terms_raised w) n q 0 0 (3 * n) q (omega arith) (omega arith) i ++ raised_on w (terms_raised w) n q 1 1 (3 * n + 1) (q + 1) refl refl i)
+    ∙ sym (map-append (raised (n * 3 ^ suc (length w)) q) (terms_from 0 0 w) (terms_from 1 1 w))
+terms_raised (minus ∷ w) n q =
+    (λ i. raised_on w (terms_raised w) n q 0 0 (3 * n) q (omega arith) (omega arith) i ++ raised_on w (terms_raised w) n q 1 3 (3 * n + 1) (q + 3) refl refl i)
+    ∙ sym (map-append (raised (n * 3 ^ suc (length w)) q) (terms_from 0 0 w) (terms_from 1 3 w))
+
+pub front_level : (w : Word) (k : ℕ) → k ≡ 3 ^ length w → map (raised (2 * k) 0) (terms_from 0 0 w) ≡ terms_from 0 0 (level ∷ w)
+front_level w k e = ap (λ x. map (raised (2 * x) 0) (terms_from 0 0 w)) e ∙ sym (terms_raised w 2 0)
+
+pub front_other : (i : Axis) (w : Word) (k t : ℕ) → k ≡ 3 ^ length w → digit i ≢ 1 → t ≡ cond (nat_eq (digit i) 2) 1 3 →
+    terms_from 0 0 w ++ map (raised k t) (terms_from 0 0 w) ≡ terms_from 0 0 (letter_of i ∷ w)
+front_other x1 w k t e other turn = absurd (other refl)
+front_other x2 w k t e other turn =
+    let one : k ≡ 1 * 3 ^ length w = omega (arith, e) in
+    ap (λ us. terms_from 0 0 w ++ us) ((λ i. map (raised (one i) (turn i)) (terms_from 0 0 w)) ∙ sym (terms_raised w 1 1))
+front_other x3 w k t e other turn =
+    let one : k ≡ 1 * 3 ^ length w = omega (arith, e) in
+    ap (λ us. terms_from 0 0 w ++ us) ((λ i. map (raised (one i) (turn i)) (terms_from 0 0 w)) ∙ sym (terms_raised w 1 3))
+
+pub length_rest : (r c p : ℕ) → length (drop p (word_at r c)) ≡ r - p
+length_rest r c p = length-drop p (word_at r c) ∙ ap (λ k. k - p) (length_word r c)
+
+pub small_terms : (r c p : ℕ) → 0 < p → p ≤ r → r ≤ 6 → AreSmallTerms (terms_from 0 0 (drop p (word_at r c)))
+small_terms r c p h l f = record {
+  each =
+      let w : Word = drop p (word_at r c) in
+      let len = length_rest r c p in
+      let small : 3 ^ length w ≤ 243 = small_weight (length w) (omega (arith, len)) in
+      let one : 0 < 3 ^ 0 = lit< tt in
+      each_map _ _ (λ t h. (omega (arith, h.0, small), h.1)) _ (terms_within w 0 0 0 one (length w) (omega arith) 15 (omega (arith, len)));
+}
 
 -- the rows of one more word, gathered from its terms
 pub word_made : (n r : ℕ) → n ≡ 3 ^ r → n ≤ 729 → (before : ℕ → ℕ → Bool) → IsTotalBelow n before → (es : List Entry) → AreSound n before es → (chosen : Word → Bool) →

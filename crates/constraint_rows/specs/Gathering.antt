@@ -1,8 +1,8 @@
 -- The words by their numbers, the components that belong to a word, and the parts of a row gathered from them.
 --   letters, word_at    the letters that the digits 1, 2, 3 stand for; the word of a number
 --   words_below     the words of the numbers below an end
---   turn_of         the power of i that an index 2 at a letter's place gives
 --   terms_from      the components whose indices go on by a word, each with a power of i
+--   raised          a term with its component and its power of i raised
 --   turn_sign       the sign in front of 1 or i in a power of i
 --   unit            1 or -1
 --   IsPlaceFor      where a component belongs among parts in their order
@@ -46,16 +46,19 @@ pub record AreRowsBelow
   pub gone : AreWordRows r before es (filter chosen (words_below r end)) rows
 
 -- ---- terms
-abbrev pub turn_of : Letter → ℕ
-turn_of level = 0
-turn_of plus = 1
-turn_of minus = 3
-
 abbrev pub terms_from : ℕ → ℕ → Word → List Term
 terms_from n q [] = record { component = n; quarters = q } ∷ []
 terms_from n q (level ∷ w) = terms_from (3 * n + 2) q w
 terms_from n q (plus ∷ w) = terms_from (3 * n) q w ++ terms_from (3 * n + 1) (q + 1) w
 terms_from n q (minus ∷ w) = terms_from (3 * n) q w ++ terms_from (3 * n + 1) (q + 3) w
+
+-- a term with its component and its power of i raised
+abbrev pub raised : ℕ → ℕ → Term → Term
+raised n q t = record { component = t.component + n; quarters = t.quarters + q }
+
+-- terms as those of five letters at most
+pub record AreSmallTerms (ts : List Term) : Type 0 where
+  pub each : Each (λ t. (t.component ≤ 243) × (t.quarters ≤ 15)) ts
 
 -- the components are below n
 pub record AreTermsBelow (n : ℕ) (ts : List Term) : Type 0 where

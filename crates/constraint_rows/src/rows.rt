@@ -3,12 +3,13 @@ ghost use Rattle.std.specs.Prelude.{◌≡◌, ◌≢◌, ◌<◌, pos, IfOk, le
 ghost use Rattle.constraint_rows.specs.WordRows.{AreParts};
 
 use sign_moves::NoMemory;
+use smallvec::SmallVec;
 use std::alloc::Global;
 use std::marker::{Model, PhantomData};
 use tensor_rank::{Comp, Rank};
 
 /// A component, by its number, with a whole number.
-#[derive(Clone, Copy, Debug, PartialEq, Eq)]
+#[derive(Clone, Copy, Debug, PartialEq, Eq, Default)]
 pub struct Part {
     pub component: u16,
     pub number: i64,
@@ -17,7 +18,7 @@ pub struct Part {
 /// A row over components of rank R: some components, each with a whole number other than 0.
 #[derive(Drop)]
 pub struct Row<R: Rank> {
-    parts: Vec<Part>,
+    parts: SmallVec<Part, 4>,
     of: PhantomData<R>,
 }
 
@@ -39,9 +40,10 @@ impl<R: Rank> Row<R> {
         requires { AreParts R.LEN parts.now }
         ensures { IfOk result (λ row. row ≡ parts.now) }
     {
-        let parts = Vec::from_slice(alloc, parts)?;
+        let mut own = SmallVec::new(alloc);
+        own.extend_from_slice(parts)?;
         Ok(Row {
-            parts,
+            parts: own,
             of: PhantomData,
         })
     }

@@ -1,5 +1,5 @@
 //! The even and odd rows of words over z, + and -: a rotation about z multiplies the sum of a word by a unit number.
-ghost use Rattle.std.specs.Prelude.{◌≡◌, ℕ, ◌+◌, ◌*◌, ◌^◌, ◌<◌, ◌≤◌, ◌++◌, ◌∷◌, ◌≢◌, [], IfOk, OnOk, ◌==◌, if◌then◌else◌, drop, filter, length, List};
+ghost use Rattle.std.specs.Prelude.{◌≡◌, ℕ, ◌+◌, ◌*◌, ◌<◌, ◌≤◌, ◌++◌, ◌≢◌, [], IfOk, OnOk, ◌==◌, if◌then◌else◌, filter, length, map, List};
 ghost use Rattle.tensor_defs.specs.Elimination.{AreRepresentatives};
 ghost use Rattle.tensor_defs.specs.Frames.{AllOf, IsFramed, IsPlain};
 ghost use Rattle.tensor_defs.specs.Jahn.{JahnSymbol};
@@ -9,7 +9,7 @@ ghost use Rattle.sign_moves.specs.declared.classes.Entry.{Entry};
 ghost use Rattle.tensor_rank.specs.Orders.{before_at, before_of};
 ghost use Rattle.tensor_rank.specs.Shapes.{IsShapeOf};
 ghost use Rattle.constraint_rows.specs.Choices.{is_chosen, is_turning};
-ghost use Rattle.constraint_rows.specs.Gathering.{AreRowsBelow, AreSmallParts, AreTermsBelow, gathered, term_added, terms_from, turn_sign, word_at};
+ghost use Rattle.constraint_rows.specs.Gathering.{AreRowsBelow, AreSmallParts, AreSmallTerms, AreTermsBelow, gathered, raised, term_added, terms_from, turn_sign, word_at};
 ghost use Rattle.constraint_rows.specs.WordRows.{AreParts, AreSound, AreWordRows, carrier_of};
 
 use crate::axis::axis_classes;
@@ -36,68 +36,73 @@ fn turn_at(digit: u8) -> u8
     if digit == 2 { 1 } else { 3 }
 }
 
-/// Lists a component with its factor.
-fn push_term(terms: &mut Vec<Term>, number: usize, quarters: u8) -> Result<(), NoMemory>
-    requires { number < 65536 }
-    ensures { OnOk result (terms.new.items ≡ terms.old.items ++ (record { component = number; quarters = quarters }) ∷ []) }
+/// A term with its component and its power of i raised.
+fn raised(term: Term, by: u16, quarters: u8) -> Term
+    requires component { term.component + by < 65536 }
+    requires quarters { term.quarters + quarters < 256 }
+    ensures { result ≡ raised by quarters term }
 {
-    terms.push(Term {
-        component: number as u16,
-        quarters,
-    })?;
+    Term {
+        component: term.component + by,
+        quarters: term.quarters + quarters,
+    }
+}
+
+/// Raises the component of each term.
+fn raise_all(terms: &mut Vec<Term>, by: u16)
+    requires small { AreSmallTerms terms.old.items }
+    requires by { by ≤ 486 }
+    ensures { terms.new.items ≡ map (raised by 0) terms.old.items }
+{
+    for place in 0..terms.len() {
+        terms[place] = raised(terms[place], by, 0);
+    }
+}
+
+/// Lists each term once more, with its component and its power of i raised.
+fn push_raised(terms: &mut Vec<Term>, by: u16, quarters: u8) -> Result<(), NoMemory>
+    requires small { AreSmallTerms terms.old.items }
+    requires by { by ≤ 243 }
+    requires quarters { quarters ≤ 3 }
+    ensures { OnOk result (terms.new.items ≡ terms.old.items ++ map (raised by quarters) terms.old.items) }
+{
+    for place in 0..terms.len() {
+        let term = terms[place];
+        terms.push(raised(term, by, quarters))?;
+    }
     Ok(())
 }
 
-/// Lists the components that a last letter gives, by its digit.
-fn list_last(terms: &mut Vec<Term>, digit: u8, number: usize, quarters: u8) -> Result<(), NoMemory>
-    requires number { number < 729 }
-    requires quarters { quarters ≤ 15 }
-    ensures level { digit ≡ 1 → OnOk result (terms.new.items ≡ terms.old.items ++ terms_from (3 * number + 2) quarters []) }
-    ensures other { digit ≢ 1 → OnOk result (terms.new.items ≡ terms.old.items ++ (terms_from (3 * number) quarters [] ++ terms_from (3 * number + 1) (quarters + (if digit == 2 then 1 else 3)) [])) }
+/// The terms of a word with one more letter in front, by its digit, from those of the word; an index 2 counts the weight.
+fn put_letter(terms: &mut Vec<Term>, digit: u8, weight: u16) -> Result<(), NoMemory>
+    requires small { AreSmallTerms terms.old.items }
+    requires weight { weight ≤ 243 }
+    ensures level { digit ≡ 1 → OnOk result (terms.new.items ≡ map (raised (2 * weight) 0) terms.old.items) }
+    ensures other { digit ≢ 1 → OnOk result (terms.new.items ≡ terms.old.items ++ map (raised weight (if digit == 2 then 1 else 3)) terms.old.items) }
 {
     if digit == 1 {
-        return push_term(terms, 3 * number + 2, quarters);
-    }
-    push_term(terms, 3 * number, quarters)?;
-    push_term(terms, 3 * number + 1, quarters + turn_at(digit))
-}
-
-/// Lists the components whose indices go on by the letters of a word from a place on, after those of a number, whose
-/// factor has this power of i so far.
-fn list_terms<R: Rank>(
-    terms: &mut Vec<Term>,
-    word: Comp<R>,
-    place: usize,
-    number: usize,
-    quarters: u8,
-) -> Result<(), NoMemory>
-    requires place { place ≤ R.R }
-    requires number { number < 3 ^ place }
-    requires quarters { quarters ≤ 3 * place }
-    ensures { OnOk result (terms.new.items ≡ terms.old.items ++ terms_from number quarters (drop place (word_at R.R word))) }
-{
-    if place == R::R {
-        terms.push(Term {
-            component: number as u16,
-            quarters,
-        })?;
+        raise_all(terms, 2 * weight);
         return Ok(());
     }
-    let digit = word.digit(place);
-    if place + 1 == R::R {
-        return list_last(terms, digit, number, quarters);
+    push_raised(terms, weight, turn_at(digit))
+}
+
+/// Lists the components that belong to a word, each with its factor, in place of what the list held: from the last
+/// letter on, each letter other than z doubles the list.
+fn list_terms<R: Rank>(terms: &mut Vec<Term>, word: Comp<R>) -> Result<(), NoMemory>
+    ensures { OnOk result (terms.new.items ≡ terms_from 0 0 (word_at R.R word)) }
+{
+    terms.clear();
+    terms.push(Term {
+        component: 0,
+        quarters: 0,
+    })?;
+    let mut weight = 1;
+    for place in (0..R::R).rev() {
+        put_letter(terms, word.digit(place), weight)?;
+        weight *= 3;
     }
-    if digit == 1 {
-        return list_terms(terms, word, place + 1, 3 * number + 2, quarters);
-    }
-    list_terms(terms, word, place + 1, 3 * number, quarters)?;
-    list_terms(
-        terms,
-        word,
-        place + 1,
-        3 * number + 1,
-        quarters + turn_at(digit),
-    )
+    Ok(())
 }
 
 /// The sign in front of 1 or i in a power of i.
@@ -179,8 +184,7 @@ fn add_word<R: Rank>(
     if !is_chosen(rotations, word) {
         return Ok(());
     }
-    terms.clear();
-    list_terms(terms, word, 0, 0, 0)?;
+    list_terms(terms, word)?;
     gather(even, odd, terms, classes, order)?;
     rows.push(Row::of_parts(alloc, even)?)?;
     rows.push(Row::of_parts(alloc, odd)?)?;

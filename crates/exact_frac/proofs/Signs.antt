@@ -4,8 +4,8 @@ use Rattle.std.specs.Prelude.{unsigned_abs}
 use lib.IntN.{ℤ, pos, negsuc, ◌*ℤ◌, neg_ℤ}
 use lib.Signed.{lt_z}
 use borrow.Author.Differences.{ints}
-use Rattle.tensor_defs.specs.Prelude.{neg-mul_ℤ, over}
-use Rattle.exact_frac.specs.Held.{signed, is_negative, quotient, opposite}
+use Rattle.tensor_defs.specs.Prelude.{neg-mul_ℤ}
+use Rattle.exact_frac.specs.Held.{signed, is_negative, opposite}
 
 pub size-neg : (n : ℤ) → unsigned_abs (neg_ℤ n) ≡ unsigned_abs n
 size-neg (pos zero) = refl
@@ -29,12 +29,6 @@ signed-mul (negsuc a) (negsuc b) = refl
 pub signed-scale : (b : Bool) (k g : ℕ) → signed b k *ℤ pos g ≡ signed b (k * g)
 signed-scale true k g = neg-mul_ℤ (pos k) (pos g)
 signed-scale false k g = refl
-
-pub quotient-parts : (p d : ℤ) → over (signed (opposite p d) (unsigned_abs p)) (unsigned_abs d) ≡ quotient p d
-quotient-parts (pos a) (pos b) = refl
-quotient-parts (negsuc a) (pos b) = refl
-quotient-parts (pos a) (negsuc b) = refl
-quotient-parts (negsuc a) (negsuc b) = refl
 
 pub size-positive : (d : ℤ) → d ≢ pos 0 → 0 < unsigned_abs d
 size-positive (pos zero) h = absurd (h refl)

@@ -163,10 +163,14 @@ impl Frac {
     {
         let size = self.num.unsigned_abs();
         let other_size = other.num.unsigned_abs();
+        let negative = differ_in_sign(self.num, other.num);
+        if self.den == 1 && other.den == 1 {
+            return from_lowest(negative, size as u128 * other_size as u128, 1);
+        }
         let first = gcd(size, other.den);
         let second = gcd(other_size, self.den);
         from_lowest(
-            differ_in_sign(self.num, other.num),
+            negative,
             (size / first) as u128 * (other_size / second) as u128,
             (self.den / second) as u128 * (other.den / first) as u128,
         )

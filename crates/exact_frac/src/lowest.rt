@@ -57,6 +57,9 @@ pub fn lowered(negative: bool, top: u64, bottom: u64) -> Result<Frac, TooLarge>
     requires { 0 < bottom }
     ensures { IsExact (over (signed negative top) bottom) result }
 {
+    if bottom == 1 {
+        return from_lowest(negative, top as u128, 1);
+    }
     let common = gcd(top, bottom);
     from_lowest(
         negative,

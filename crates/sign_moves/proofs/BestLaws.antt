@@ -1,7 +1,6 @@
 -- How a table of first components is made from a table of classes.
---   best_stays    c is no better than what is kept
 --   best_taken    c is taken
-use Rattle.list_laws.proofs.Kit.{◌≡◌, ◌≢◌, ℕ, ◌+◌, ◌<◌, Bool, true, false, List, length, get_or, arith, ap, sym, ◌∙◌, subst, inl, inr, length-set}
+use Rattle.list_laws.proofs.Kit.{◌≡◌, ◌≢◌, ℕ, ◌+◌, ◌<◌, Bool, true, false, List, length, arith, ap, sym, ◌∙◌, subst, inl, inr, length-set}
 use Rattle.list_laws.proofs.Kit.{get_or-set_other, get_or-set_at, eqb_tells, cases_lt, cases_Bool}
 use Rattle.std.proofs.Common.{set}
 use Rattle.std.specs.Prelude.{slice_set}
@@ -9,32 +8,6 @@ use Rattle.sign_moves.specs.declared.classes.Entry.{Entry}
 use Rattle.sign_moves.specs.Prelude.{times, times-times, times_self, Moves, IsReversible, first_at, sign_at, vanishes_at, IsClassTable, best_at, IsBestUpTo}
 use Rattle.sign_moves.specs.Prelude.{AreLinks, IsStrict, IsFirstTable}
 use Rattle.sign_moves.proofs.ClassLaws.{same_first, reached_first, zero_of_vanishing, class_reaches}
-
-pub best_start : (n : ℕ) (before : ℕ → ℕ → Bool) (classes : List Entry) (best : List ℕ) → length best ≡ n →
-    ((c : ℕ) → c < n → get_or best c 0 ≡ c) → IsBestUpTo n before classes best 0
-best_start n before classes best len own = record {
-  len = len;
-  below = λ r h. rw (own r h) h;
-  same = λ r h e. ap (first_at classes) (own r h) ∙ e;
-  least = λ r e h i l m s. absurd (omega arith);
-}
-
--- c is no better than what is kept
-pub best_stays : {n : ℕ} {before : ℕ → ℕ → Bool} {classes : List Entry} {best : List ℕ} {c : ℕ} →
-    IsBestUpTo n before classes best c → before c (best_at best (first_at classes c)) ≡ false →
-    IsBestUpTo n before classes best (c + 1)
-best_stays {n} {before} {classes} {best} {c} h no_better = record {
-  len = h.len;
-  below = h.below;
-  same = h.same;
-  least = λ r e l i m k s. elim (cases_lt e c) [
-    | inl p ↦ h.least r e l i m p s
-    | inr p ↦
-        let same : e ≡ c = omega arith in
-        let root : first_at classes c ≡ r = ap (first_at classes) (sym same) ∙ s in
-        (λ i. before (same i) (best_at best (sym root i))) ∙ no_better
-  ];
-}
 
 set_told : (P : ℕ → Type 0) (best : List ℕ) (i x r : ℕ) → i < length best → (r ≡ i → P x) → (r ≢ i → P (best_at best r)) → P (best_at (set best i x) r)
 set_told P best i x r inside here there = elim (eqb_tells r i) as (λ _. P (best_at (set best i x) r)) [

@@ -2,8 +2,9 @@
 --   step_small    the numbers stay small
 --   spread_more    the steps of one component more
 use Rattle.list_laws.proofs.Kit.{◌≡◌, ℕ, ◌+◌, ◌*◌, ◌/◌, ◌%◌, ◌^◌, ◌<◌, ◌≤◌, List, [], ◌∷◌, ◌++◌, zero, suc, add-one, length, get_or, arith, ap, sym, ◌∙◌}
-use Rattle.list_laws.proofs.Kit.{refl, inl, inr, lit<, pow-le-pow_right, pow-succ', cases_lt, get_or_push, get_or_append_left}
-use Rattle.std.proofs.Common.{length-append}
+use Rattle.list_laws.proofs.Kit.{refl, inl, inr, lit<, pow-le-pow_right, pow-succ', cases_lt, get_or_append_left}
+use Rattle.std.proofs.Common.{append_assoc, length-append}
+use Rattle.std.proofs.lemmas.List.{get_or-append-add}
 use Rattle.tensor_defs.specs.declared.Sign.{Sign}
 use Rattle.tensor_defs.specs.declared.Sign.TheVariants.{Plus}
 use Rattle.sign_moves.specs.declared.tabled.Step.{Step}
@@ -62,46 +63,19 @@ row_small {parts} {whole} {k} {row} h small below few j d inside digit =
 
 -- three steps more
 module _ (old : List Step) (x y z : Step) where
-  abbrev three : List Step
-  three = ((old ++ x ∷ []) ++ y ∷ []) ++ z ∷ []
+  three_are : ((old ++ x ∷ []) ++ y ∷ []) ++ z ∷ [] ≡ old ++ x ∷ y ∷ z ∷ []
+  three_are = ap (λ us. us ++ z ∷ []) (append_assoc old (x ∷ []) (y ∷ [])) ∙ append_assoc old (x ∷ y ∷ []) (z ∷ [])
 
-  one_longer : (xs : List Step) (s : Step) → length (xs ++ s ∷ []) ≡ length xs + 1
-  one_longer xs s = length-append xs (s ∷ [])
-
-  three_before : (i : ℕ) → i < length old → step_at three i ≡ step_at old i
+  three_before : (i : ℕ) → i < length old → step_at (((old ++ x ∷ []) ++ y ∷ []) ++ z ∷ []) i ≡ step_at old i
   three_before i h =
-      let one = one_longer old x in
-      let two = one_longer (old ++ x ∷ []) y in
-      get_or_append_left ((old ++ x ∷ []) ++ y ∷ []) (z ∷ []) (record { to = 0; sign = Plus }) i (omega arith)
-      ∙ get_or_append_left (old ++ x ∷ []) (y ∷ []) (record { to = 0; sign = Plus }) i (omega arith)
-      ∙ get_or_append_left old (x ∷ []) (record { to = 0; sign = Plus }) i h
+      ap (λ us. step_at us i) three_are ∙ get_or_append_left old (x ∷ y ∷ z ∷ []) (record { to = 0; sign = Plus }) i h
 
-  three_first : (i : ℕ) → i ≡ length old → step_at three i ≡ x
-  three_first i h =
-      let one = one_longer old x in
-      let two = one_longer (old ++ x ∷ []) y in
-      get_or_append_left ((old ++ x ∷ []) ++ y ∷ []) (z ∷ []) (record { to = 0; sign = Plus }) i (omega arith)
-      ∙ get_or_append_left (old ++ x ∷ []) (y ∷ []) (record { to = 0; sign = Plus }) i (omega arith)
-      ∙ get_or_push old x (record { to = 0; sign = Plus }) i (sym h)
+  three_at : (d i : ℕ) → i ≡ length old + d → step_at (((old ++ x ∷ []) ++ y ∷ []) ++ z ∷ []) i ≡ step_at (x ∷ y ∷ z ∷ []) d
+  three_at d i h =
+      (λ k. step_at (three_are k) (h k)) ∙ get_or-append-add old (x ∷ y ∷ z ∷ []) d (record { to = 0; sign = Plus })
 
-  three_second : (i : ℕ) → i ≡ length old + 1 → step_at three i ≡ y
-  three_second i h =
-      let one = one_longer old x in
-      let two = one_longer (old ++ x ∷ []) y in
-      get_or_append_left ((old ++ x ∷ []) ++ y ∷ []) (z ∷ []) (record { to = 0; sign = Plus }) i (omega arith)
-      ∙ get_or_push (old ++ x ∷ []) y (record { to = 0; sign = Plus }) i (omega arith)
-
-  three_third : (i : ℕ) → i ≡ length old + 2 → step_at three i ≡ z
-  three_third i h =
-      let one = one_longer old x in
-      let two = one_longer (old ++ x ∷ []) y in
-      get_or_push ((old ++ x ∷ []) ++ y ∷ []) z (record { to = 0; sign = Plus }) i (omega arith)
-
-  pub three_length : length three ≡ length old + 3
-  three_length =
-      let one = one_longer old x in
-      let two = one_longer (old ++ x ∷ []) y in
-      one_longer ((old ++ x ∷ []) ++ y ∷ []) z ∙ (omega arith)
+  pub three_length : length (((old ++ x ∷ []) ++ y ∷ []) ++ z ∷ []) ≡ length old + 3
+  three_length = ap length three_are ∙ length-append old (x ∷ y ∷ z ∷ [])
 
 -- the steps of one component more
 pub spread_more : (row part old : List Step) (j : ℕ) (x y z : Step) → length old ≡ 3 * j → ((i d : ℕ) → i < j → d < 3 → step_at old (3 * i + d) ≡ joined_step (step_at row i) (step_at part d)) →
@@ -116,7 +90,7 @@ spread_more row part old j x y z len each e f g i d below digit =
     ]
   where
     last : (d : ℕ) → d < 3 → (at : ℕ) → at ≡ length old + d → step_at (((old ++ x ∷ []) ++ y ∷ []) ++ z ∷ []) at ≡ joined_step (step_at row j) (step_at part d)
-    last zero h at is = three_first old x y z at (omega arith) ∙ e
-    last (suc zero) h at is = three_second old x y z at (omega arith) ∙ f
-    last (suc (suc zero)) h at is = three_third old x y z at (omega arith) ∙ g
+    last zero h at is = three_at old x y z 0 at is ∙ e
+    last (suc zero) h at is = three_at old x y z 1 at is ∙ f
+    last (suc (suc zero)) h at is = three_at old x y z 2 at is ∙ g
     last (suc (suc (suc d))) h at is = absurd (omega arith)

@@ -4,9 +4,6 @@
 --   closed_grows    what is closed stays closed
 --   step_marks    the class is marked where the sign differs
 --   visit_ends    a component that each move has carried waits no more
---   walk_ends    a walk whose queue is at its end
---   walk_begins    a walk begins with a component that no walk has come to
---   walk_passes    a component that a walk has come to
 use Rattle.list_laws.proofs.Kit.{[], ◌≡◌, ◌≢◌, ℕ, ◌+◌, ◌<◌, ◌≤◌, true, false, List, ◌∷◌, ◌++◌, arith, ap, sym, ◌∙◌, ◌⊎◌, refl, subst, length, le_refl, inl}
 use Rattle.list_laws.proofs.Kit.{inr, length-set, get_or-set_other, get_or_push, get_or_append_left, sum_by-set, get_or-set_at, eqb_tells, get_or-eq_default}
 use Rattle.list_laws.proofs.Kit.{cases_lt, cases_Bool}
@@ -346,61 +343,6 @@ visit_ends {n} {r} {head} {m} {es} {q} w done = record {
           | inl e ↦ inr (let P : ℕ → Type 0 = λ x. IsClosedAt m es x in subst P (ap (item_at q) (sym e.1) ∙ p.is) done)
           | inr e ↦ let differs = e.1 in inl (record { place = p.place; after = omega arith; inside = p.inside; is = p.is })
         ]
-
--- a walk whose queue is at its end
-pub walk_ends : {n r head : ℕ} {m : Moves} {es : List Entry} {q : List ℕ} → IsWalk n m es r q head → length q ≤ head → IsWalked n m es (r + 1)
-walk_ends {n} {r} {head} {m} {es} {q} w end = record {
-  sound = w.sound;
-  own = λ d h l. w.own d h (omega arith);
-  marked = λ d v. let low = w.marked d v in omega arith;
-  clashing = w.clashing;
-  closed = λ d h low. elim (w.closed d h (omega arith)) as (λ _. IsClosedAt m es d) [
-    | inl p ↦
-        let after : head ≤ p.place = p.after in
-        let inside : p.place < length q = p.inside in
-        absurd (omega arith)
-    | inr p ↦ p
-  ];
-}
-
--- a walk begins with a component that no walk has come to
-pub walk_begins : {n r : ℕ} {m : Moves} {es : List Entry} → IsWalked n m es r → r < n → r ≤ first_at es r → (q : List ℕ) → IsWalk n m es r (q ++ r ∷ []) (length q)
-walk_begins {n} {r} {m} {es} w inside own q =
-    let first : first_at es r ≡ r = w.own r inside own in
-    let len : length (q ++ r ∷ []) ≡ length q + 1 = length-append q (r ∷ []) in
-    let last : (i : ℕ) → length q ≤ i → i < length (q ++ r ∷ []) → item_at (q ++ r ∷ []) i ≡ r = λ i h l. get_or_push q r 0 i (omega arith) in
-    record {
-      sound = w.sound;
-      own = λ d h l. w.own d h (omega arith);
-      marked = λ d v. let low = w.marked d v in omega arith;
-      clashing = w.clashing;
-      below = λ i h l. let P : ℕ → Type 0 = λ x. x < n in subst P (sym (last i h l)) inside;
-      of_class = λ i h l. ap (first_at es) (last i h l) ∙ first;
-      closed = λ d h low. elim (cases_lt (first_at es d) r) as (λ _. IsPending (q ++ r ∷ []) (length q) d ⊎ IsClosedAt m es d) [
-        | inl p ↦ inr (w.closed d h p)
-        | inr p ↦
-            let itself : first_at es d ≡ d = w.own d h p in
-            inl (record { place = length q; after = le_refl (length q); inside = omega arith; is = get_or_push q r 0 (length q) refl ∙ (omega arith) })
-      ];
-    }
-
--- a component that a walk has come to
-pub walk_passes : {n r : ℕ} {m : Moves} {es : List Entry} → IsWalked n m es r → r < n → first_at es r < r → IsWalked n m es (r + 1)
-walk_passes {n} {r} {m} {es} w inside earlier = record {
-  sound = w.sound;
-  own = λ d h l. w.own d h (omega arith);
-  marked = λ d v. let low = w.marked d v in omega arith;
-  clashing = w.clashing;
-  closed = λ d h low. elim (cases_lt (first_at es d) r) as (λ _. IsClosedAt m es d) [
-    | inl p ↦ w.closed d h p
-    | inr p ↦
-        let itself : first_at es d ≡ d = w.own d h p in
-        let same : d ≡ r = omega arith in
-        let P : ℕ → Type 0 = λ x. first_at es x < x in
-        let low_too : first_at es d < d = subst P (sym same) earlier in
-        absurd (omega arith)
-  ];
-}
 
 -- where no move leads to a later class, none leads to an earlier one, as moves lead back
 first_falls : {n : ℕ} {m : Moves} {c d : ℕ} {s : Sign} (es : List Entry) → IsReversible n m → ((k c : ℕ) → k < m.count → c < n → first_at es (m.carried k c) ≤ first_at es c) → Reaches m c d s → c < n → first_at es d ≤ first_at es c

@@ -3,7 +3,7 @@
 --   dot-minus, dot-less, dot-reduced, dot-zero, dot-scaled, solve-cleared, solve-snoc    solutions
 --   scaled-is, kept_same, scaled-unique    scaling
 --   reduced-keeps, reduced-zero, keep-reduced    each pivot is 1 in its own row and 0 in the others
---   IsState, state-start, state-skip, new-leading, undo, state-keep ..    the state between two rows
+--   IsState, state-skip, new-leading, undo, state-keep ..    the state between two rows
 use Rattle.list_laws.proofs.Kit.{◌≡◌, ℕ, zero, suc, ◌⊎◌, ◌↔◌, inl, inr, List, [], ◌∷◌, ◌++◌, refl, ap, sym, ◌∙◌, subst, arith, cases_lt, cases_order}
 use Rattle.list_laws.proofs.Members.{each_map, each_push}
 use Rattle.tensor_defs.specs.Prelude.{Number, add, mul, neg, num_zero, num_one, whole, Line, Kept, minus_times, less, reduced, cleared, IsScaled, IsZeroLine}
@@ -194,15 +194,6 @@ pub record IsState (all : List Line) (κs : List Kept) (rest : List Line) : Type
   pub within : (n : ℕ) → Each (IsWithin n) all → Each (IsKeptWithin n) κs × Each (IsWithin n) rest
   pub grows_then : GrowsFrom [] all → GrowsFrom κs rest
   pub grew_from : GrowsFrom κs rest → GrowsFrom [] all
-
-pub state-start : (all : List Line) → IsState all [] all
-state-start all = record {
-  is_reduced = record { leading = tt; apart = tt };
-  same = λ n t. (λ s. (tt, s), λ s. s.1);
-  within = λ n a. (tt, a);
-  grows_then = λ g. g;
-  grew_from = λ g. g;
-}
 
 -- a row that is not 0 is not scaled from one that is
 zero_unscaled : (ρ : Line) (κ : Kept) → IsZeroLine ρ → IsScaled ρ κ → ⊥

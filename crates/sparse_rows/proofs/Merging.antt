@@ -2,7 +2,7 @@
 --   coeff-small    each coefficient of a row is 0 or one of its fractions
 --   IsMerging, merge-start, below_head, below_tail, merge-left, merge-right ..
 --       what is left of both rows, and what is made so far
---   above-at, entry-at, at-left, at-right, heads-at, right-head ..    the steps, at places of both rows
+--   above-at, at-left, at-right, heads-at, right-head ..    the steps, at places of both rows
 use Rattle.std.proofs.Common.{length, get_or, drop, ◌≡◌, ◌≢◌, ℕ, ◌+◌, ◌<◌, ◌≤◌, ◌⊎◌, inl, inr, List, [], ◌∷◌, ◌++◌, refl, ap, sym, ◌∙◌, subst, arith, lit<, nat_eq, cond}
 use Rattle.std.proofs.lemmas.Bool.{cases_eq, eq-eqb, ne_eqb}
 use Rattle.tensor_defs.specs.Prelude.{Number, add, mul, neg, num_zero, whole, ReachesLimit, value_of, Fraction, Line, minus_times, TimesGrows, Each}
@@ -149,9 +149,6 @@ merge-right ρ f σ b e A B out m h calm p v z = record {
     put : (u : ℕ) → part e u ≡ neg (mul f (part b u))
     put = part_is e b.unknown (neg (mul f (value_of b.value))) (λ u. neg (mul f (part b u))) p (λ u q. ap (λ x. neg (mul f x)) (part-own b u q)) (λ u q. ap (λ x. neg (mul f x)) (part-other b u q) ∙ ap neg (num_mul-zero f) ∙ num_mul-zero _) v
 
-above_at : (e a : Entry) (B : List Entry) → e.unknown ≡ a.unknown → Above a.unknown B → Above e.unknown B
-above_at e a B p h = subst (λ k. Above k B) (sym p) h
-
 law_both : (n f o p q a b : Number) → add o (add (add p a) (mul n (mul f (add q b)))) ≡ add (add o (add p (mul n (mul f q)))) (add a (mul n (mul f b)))
 law_both n f o p q a b = simp ring
 
@@ -170,8 +167,8 @@ merge-both ρ f σ a b e A B out m h calm p v z = record {
   row_a = m.row_a.2;
   row_b = m.row_b.2;
   row_out = row_snoc out e m.row_out (subst (λ k. Each (λ x. x.unknown < k) out) (sym p) (below_head a A out m.below_a)) z;
-  below_a = each_push (λ x. Above x.unknown A) out e (below_tail a A out m.below_a) (above_at e a A p m.row_a.0);
-  below_b = each_push (λ x. Above x.unknown B) out e (below_tail b B out m.below_b) (above_at e b B (p ∙ h) m.row_b.0);
+  below_a = each_push (λ x. Above x.unknown A) out e (below_tail a A out m.below_a) (subst (λ k. Above k A) (sym p) m.row_a.0);
+  below_b = each_push (λ x. Above x.unknown B) out e (below_tail b B out m.below_b) (subst (λ k. Above k B) (sym (p ∙ h)) m.row_b.0);
   left = step_left f σ b B m.row_b.0 m.left calm;
 }
   where
@@ -244,17 +241,11 @@ pub always_err : {X P : Type 0} (r : Result X EliminateFault) → P → IfErr r 
 always_err (Ok x) p = tt
 always_err (Err e) p = λ _. p
 
-pub head-above : (a b : Entry) (B : List Entry) → IsRow (b ∷ B) → a.unknown < b.unknown → Above a.unknown (b ∷ B)
-head-above a b B r h = (h, above_less a.unknown b.unknown B h r.0)
-
 -- ---- the steps, at places of both rows
 pub above-at : (a b : Entry) (xs : List Entry) (j : ℕ) → j < length xs → b ≡ get_or xs j b → IsRow (drop j xs) → a.unknown < b.unknown → Above a.unknown (drop j xs)
 above-at a b xs j h e r k =
     let d = drop_head xs j b h e in
-    subst (Above a.unknown) (sym d) (head-above a b (drop (j + 1) xs) (subst IsRow d r) k)
-
-pub entry-at : (b : Entry) (xs : List Entry) (j : ℕ) → j < length xs → b ≡ get_or xs j b → IsRow (drop j xs) → IsEntry b
-entry-at b xs j h e r = (subst IsRow (drop_head xs j b h e) r).1
+    subst (Above a.unknown) (sym d) (k, above_less a.unknown b.unknown (drop (j + 1) xs) k (subst IsRow d r).0)
 
 pub at-left : (ρ : Line) (f : Number) (σ : Line) (xs B out new : List Entry) (i : ℕ) (a : Entry) → IsMerging ρ f σ (drop i xs) B out → i < length xs → a ≡ get_or xs i a → Above a.unknown B → new ≡ out ++ a ∷ [] → IsMerging ρ f σ (drop (i + 1) xs) B new
 at-left ρ f σ xs B out new i a m h e k o = subst (IsMerging ρ f σ (drop (i + 1) xs) B) (sym o) (merge-left ρ f σ a (drop (i + 1) xs) B out (subst (λ A. IsMerging ρ f σ A B out) (drop_head xs i a h e) m) k)

@@ -4,8 +4,8 @@
 --   pivot-sum    the sum
 --   IsTurning, turning-start, turning-at, turning-end    the other signs, entry by entry
 --   leading-at, solved-at, solved-end    all rows
-use Rattle.list_laws.proofs.Kit.{◌≡◌, ◌≢◌, ℕ, zero, suc, ◌+◌, ◌<◌, ◌≤◌, ◌↔◌, inl, inr, List, [], ◌∷◌, ◌++◌, length, take, drop, get_or, add-one, refl, ap}
-use Rattle.list_laws.proofs.Kit.{sym, ◌∙◌, subst, arith, false, cases_eq, cases_order, cases_Bool, drop_all}
+use Rattle.list_laws.proofs.Kit.{◌≡◌, ◌≢◌, ℕ, zero, suc, ◌+◌, ◌<◌, ◌≤◌, ◌↔◌, inl, inr, List, [], ◌∷◌, ◌++◌, length, take, drop, get_or, refl, ap}
+use Rattle.list_laws.proofs.Kit.{sym, ◌∙◌, subst, arith, false, cases_eq, cases_order, cases_Bool, drop_all, take_all, take_more}
 use Rattle.list_laws.proofs.Prelude.{drop_head, each_map, each_push, each_read, each_split, each_take}
 use Rattle.number_laws.proofs.Sameness.{one_not_zero}
 use lib.IntN.{negsuc}
@@ -20,7 +20,7 @@ use Rattle.sparse_rows.specs.declared.entry.Entry.{Entry}
 use Rattle.sparse_rows.proofs.Lines.{dot-scaled}
 use Rattle.sparse_rows.proofs.Pivots.{from_sum, to_sum, IsPivotRow, pivot_rows}
 use Rattle.sparse_rows.proofs.Merging.{part-own, part-other, coeff-head, coeff-tail, coeff-below, coeff-snoc, neg-not_zero}
-use Rattle.sparse_rows.proofs.RowSteps.{IsScaling, scaling-start, scaling-step, scaling-same, found-entry}
+use Rattle.sparse_rows.proofs.RowSteps.{IsScaling, scaling-start, scaling-step, scaling-same, found-entry, kepts-snoc}
 
 -- ---- rows added up over their entries
 dot-none : (n : ℕ) (e : Entry) (t : ℕ → Number) → n ≤ e.unknown → dot n (part e) t ≡ num_zero
@@ -210,24 +210,13 @@ kept-at P (x ∷ ks) (suc i) k h e p = kept-at P ks i k (omega (arith, h)) e p.1
 pub leading-at : (ks : List KeptRow) (i : ℕ) (k : KeptRow) → i < length ks → k ≡ get_or ks i k → IsReduced (kepts ks) → IsLeading (kept_of k)
 leading-at ks i k h e r = kept-at IsLeading ks i k h e r.leading
 
-kept_take : (ks : List KeptRow) (i : ℕ) (k : KeptRow) → i < length ks → k ≡ get_or ks i k → kepts (take (suc i) ks) ≡ kepts (take i ks) ++ kept_of k ∷ []
-kept_take [] i k h e = absurd (omega (arith, h))
-kept_take (x ∷ ks) zero k h e = λ j. kept_of (sym e j) ∷ []
-kept_take (x ∷ ks) (suc i) k h e = ap (λ l. kept_of x ∷ l) (kept_take ks i k (omega (arith, h)) e)
-
 pub solved-at : (ks : List KeptRow) (i : ℕ) (k : KeptRow) (ss ss' : List PivotSum) (s : PivotSum) → AreSolved (kepts ks) (kepts (take i ks)) ss → IsReduced (kepts ks) → i < length ks → k ≡ get_or ks i k
     → s.pivot ≡ k.pivot → IsPivotSum (kept_of k) s.terms.items → ss' ≡ ss ++ s ∷ [] → AreSolved (kepts ks) (kepts (take (i + 1) ks)) ss'
 solved-at ks i k ss ss' s m r h e p q o =
     let row = kept-at (IsPivotRow (kepts ks)) ks i k h e (pivot_rows (kepts ks) r.leading r.apart) in
-    subst (λ l. AreSolved (kepts ks) l ss') (sym (ap (λ n. kepts (take n ks)) (add-one i) ∙ kept_take ks i k h e))
+    subst (λ l. AreSolved (kepts ks) l ss') (sym (ap kepts (take_more ks i k h) ∙ kepts-snoc (take i ks) (get_or ks i k) ∙ (λ j. kepts (take i ks) ++ kept_of (sym e j) ∷ [])))
     (subst (AreSolved (kepts ks) (kepts (take i ks) ++ kept_of k ∷ [])) (sym o)
     (solved_snoc (kepts ks) (kepts (take i ks)) ss (kept_of k) s m (record { pivot = p; sum = q; free = sum_free (kepts ks) (kept_of k) s.terms.items row q })))
 
-take_whole : (ks : List KeptRow) (i : ℕ) → length ks ≤ i → take i ks ≡ ks
-take_whole [] zero h = refl
-take_whole [] (suc i) h = refl
-take_whole (x ∷ ks) zero h = absurd (omega (arith, h))
-take_whole (x ∷ ks) (suc i) h = ap (λ l. x ∷ l) (take_whole ks i (omega (arith, h)))
-
 pub solved-end : (ks : List KeptRow) (i : ℕ) (ss : List PivotSum) → AreSolved (kepts ks) (kepts (take i ks)) ss → length ks ≤ i → AreSolved (kepts ks) (kepts ks) ss
-solved-end ks i ss m h = subst (λ l. AreSolved (kepts ks) (kepts l) ss) (take_whole ks i h) m
+solved-end ks i ss m h = subst (λ l. AreSolved (kepts ks) (kepts l) ss) (take_all i ks h) m

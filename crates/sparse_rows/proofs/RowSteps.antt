@@ -2,14 +2,14 @@
 --   found-at, found-entry, IsSplit, middle-below, split-start, split-low ..    looking for an unknown
 --   IsReducing, reducing-start, line_path, reducing-skip, reducing-away, reduced-away, reducing-step    reducing
 --   scaling-nonzero, IsScaling, scaling-start, scaling-step, scaling-grows, scaling-same ..    scaling
---   IsClearing, clearing-start, clearing-step, cleared-away, seen-more, append-none, kepts-snoc, rows-snoc ..    clearing
---   clearing-at, kept-none, cleared-copy, cleared-less, cleared-grows, reducing-at ..    at places of lists
---   kept-made, kept-fails, scale-fails    keeping
---   line-head, given-row, state-at, skip-at, keep-at, keep-fails, state-done    one row more
+--   IsClearing, clearing-start, clearing-step, cleared-away, seen-more, kepts-snoc, rows-snoc ..    clearing
+--   clearing-at, cleared-copy, cleared-less, cleared-grows, reducing-at ..    at places of lists
+--   kept-made    keeping
+--   state-at, skip-at, keep-at, keep-fails, state-done    one row more
 --   difference-same, times-same, reduced-same, reducing_same, kept-same, cannot-same, err-same
 --       the same lists under other names
-use Rattle.list_laws.proofs.Kit.{length, get_or, drop, drop-cons, add-one, ◌≡◌, ◌≢◌, ℕ, zero, suc, ◌+◌, ◌-◌, ◌/◌, ◌<◌, ◌≤◌, inl, inr, List, [], ◌∷◌, ◌++◌}
-use Rattle.list_laws.proofs.Kit.{refl, ap, sym, ◌∙◌, subst, arith, cases_Bool, cases_eq, cases_lt, drop_of_length-le}
+use Rattle.list_laws.proofs.Kit.{length, get_or, drop, ◌≡◌, ◌≢◌, ℕ, zero, suc, ◌+◌, ◌-◌, ◌/◌, ◌<◌, ◌≤◌, inl, inr, List, [], ◌∷◌, ◌++◌}
+use Rattle.list_laws.proofs.Kit.{refl, ap, sym, ◌∙◌, subst, arith, cases_Bool, cases_eq, cases_lt, drop_of_length-le, get_or_default}
 use Rattle.std.specs.Prelude.{Result, Ok, Err, IfErr, IsErrAnd, Bool, false}
 use Rattle.sparse_rows.specs.declared.entry.EliminateFault.{EliminateFault}
 use Rattle.sparse_rows.specs.declared.entry.EliminateFault.TheVariants.{TooLarge}
@@ -26,7 +26,7 @@ use Rattle.sparse_rows.proofs.Lines.{less-none, less-zero, reduced-keeps, undo, 
 use Rattle.exact_frac.specs.Held.{inverse_of, IsHeld}
 use Rattle.exact_frac.proofs.Parts.{inverse-mul}
 use Rattle.sparse_rows.specs.Rows.{part, coeff, Above, IsEntry, IsRow, IsDifference}
-use Rattle.sparse_rows.specs.KeptRows.{IsKeptRow, CannotKeep, IsEliminated, AreGivenRows, lines, kept_of, kepts, AreRows, IsReducedRow, IsScaledRow, CannotScale, IsClearedRow, AreCleared}
+use Rattle.sparse_rows.specs.KeptRows.{IsKeptRow, CannotKeep, IsEliminated, lines, kept_of, kepts, AreRows, IsReducedRow, IsScaledRow, IsClearedRow, AreCleared}
 use Rattle.sparse_rows.specs.declared.entry.Entry.{Entry}
 use Rattle.sparse_rows.specs.declared.entry.KeptRow.{KeptRow}
 use Rattle.sparse_rows.proofs.Merging.{part-own, part-other, coeff-below, coeff-head, coeff-tail, coeff-snoc, coeff-small, row_snoc, below_head, below_tail}
@@ -67,11 +67,7 @@ rise-at (z ∷ zs) zero (suc j) x y r l h e f =
 rise-at (z ∷ zs) (suc i) (suc j) x y r l h e f = rise-at zs i j x y r.2 (omega (arith, l)) (omega (arith, h)) e f
 
 at-same : (xs : List Entry) (i m : ℕ) (x e : Entry) → i ≡ m → i < length xs → x ≡ get_or xs i x → e ≡ get_or xs m e → x.unknown ≡ e.unknown
-at-same [] i m x e c b q p = absurd (omega (arith, b))
-at-same (y ∷ ys) zero zero x e c b q p = λ j. ((q ∙ sym p) j).unknown
-at-same (y ∷ ys) zero (suc m) x e c b q p = absurd (omega (arith, c))
-at-same (y ∷ ys) (suc i) zero x e c b q p = absurd (omega (arith, c))
-at-same (y ∷ ys) (suc i) (suc m) x e c b q p = at-same ys i m x e (omega (arith, c)) (omega (arith, b)) q p
+at-same xs i m x e c b q p = ap (λ y. y.unknown) (q ∙ get_or_default xs i x e b ∙ ap (λ k. get_or xs k e) c ∙ sym p)
 
 pub middle-below : (low high n : ℕ) → low < high → high ≤ n → low + (high - low) / 2 < n
 middle-below low high n h k = omega (arith, h, k)
@@ -304,24 +300,12 @@ seen-more old marks κs row left ks s m d k = record {
 pub seen-same : (marks marks' : List Bool) (ks ks' : List KeptRow) → marks' ≡ marks → ks' ≡ ks → AreSeen marks (kepts ks) → AreSeen marks' (kepts ks')
 seen-same marks marks' ks ks' e p s = subst (λ x. AreSeen x (kepts ks')) (sym e) (subst (λ l. AreSeen marks (kepts l)) (sym p) s)
 
-pub append-none : (κs : List Kept) → κs ++ [] ≡ κs
-append-none [] = refl
-append-none (κ ∷ κs) = ap (λ l. κ ∷ l) (append-none κs)
-
 pub kepts-snoc : (ks : List KeptRow) (k : KeptRow) → kepts (ks ++ k ∷ []) ≡ kepts ks ++ kept_of k ∷ []
 kepts-snoc [] k = refl
 kepts-snoc (x ∷ ks) k = ap (λ l. kept_of x ∷ l) (kepts-snoc ks k)
 
 pub rows-snoc : (ks : List KeptRow) (k : KeptRow) → AreRows ks → IsRow k.entries.items → AreRows (ks ++ k ∷ [])
 rows-snoc ks k = each_push (λ k. IsRow k.entries.items) ks k
-
-pub kept-head : (ks : List KeptRow) (i : ℕ) (k : KeptRow) → i < length ks → k ≡ get_or ks i k → drop i ks ≡ k ∷ drop (i + 1) ks
-kept-head ks i k h e = drop-cons ks i k h ∙ (λ j. sym e j ∷ drop (sym (add-one i) j) ks)
-
-pub kept-row : (ks : List KeptRow) (i : ℕ) (k : KeptRow) → i < length ks → k ≡ get_or ks i k → AreRows ks → IsRow k.entries.items
-kept-row [] i k h e r = absurd (omega (arith, h))
-kept-row (x ∷ ks) zero k h e r = subst (λ y. IsRow y.entries.items) (sym e) r.0
-kept-row (x ∷ ks) (suc i) k h e r = kept-row ks i k (omega (arith, h)) e r.1
 
 -- ---- at places of lists
 pub clearing-at : (new : KeptRow) (all ks ks' out out' : List KeptRow) (old k : KeptRow) → IsClearing (kept_of new) (kepts all) (kepts out) (kepts ks) → AreRows out → ks ≡ old ∷ ks'
@@ -331,9 +315,6 @@ clearing-at new all ks ks' out out' old k s r h c o =
       subst (λ l. IsClearing (kept_of new) (kepts all) l (kepts ks')) (sym (ap kepts o ∙ kepts-snoc out k)) (clearing-step (kept_of new) (kepts all) (kepts out) (kept_of old) (kepts ks') k m c),
       subst AreRows (sym o) (rows-snoc out k r c.is_row),
     )
-
-pub kept-none : (ks : List KeptRow) (i : ℕ) → length ks ≤ i → drop i ks ≡ []
-kept-none ks i h = drop_of_length-le ks h
 
 pub cleared-copy : (new old k : KeptRow) → k.pivot ≡ old.pivot → k.entries.items ≡ old.entries.items → IsRow old.entries.items → coeff old.entries.items new.pivot ≡ num_zero → IsClearedRow (kept_of new) (kept_of old) k
 cleared-copy new old k p e r z = record {
@@ -355,7 +336,7 @@ pub cleared-grows : (new : KeptRow) (ρ : Line) (f : Number) → f ≡ ρ new.pi
 cleared-grows new ρ f e z g = (z, subst (λ x. TimesGrows ρ x (coeff new.entries.items)) e g)
 
 pub reducing-at : (ks : List KeptRow) (ρ0 ρ : Line) (i : ℕ) (k : KeptRow) → IsReducing (kepts ks) ρ0 (kepts (drop i ks)) ρ → i < length ks → k ≡ get_or ks i k → IsReducing (kepts ks) ρ0 (kept_of k ∷ kepts (drop (i + 1) ks)) ρ
-reducing-at ks ρ0 ρ i k s h e = subst (λ l. IsReducing (kepts ks) ρ0 (kepts l) ρ) (kept-head ks i k h e) s
+reducing-at ks ρ0 ρ i k s h e = subst (λ l. IsReducing (kepts ks) ρ0 (kepts l) ρ) (drop_head ks i k h e) s
 
 pub reducing-less : (ks : List KeptRow) (ρ0 ρ : Line) (i : ℕ) (k : KeptRow) (f : Number) (es : List Entry) → IsReducing (kepts ks) ρ0 (kepts (drop i ks)) ρ → i < length ks → k ≡ get_or ks i k
     → f ≡ ρ k.pivot → IsDifference ρ f (coeff k.entries.items) es → IsReducing (kepts ks) ρ0 (kepts (drop (i + 1) ks)) (coeff es)
@@ -366,11 +347,6 @@ reducing-less ks ρ0 ρ i k f es s h e p d =
 pub reducing-grows : (ks : List KeptRow) (ρ0 ρ : Line) (i : ℕ) (k : KeptRow) (f : Number) → IsReducing (kepts ks) ρ0 (kepts (drop i ks)) ρ → i < length ks → k ≡ get_or ks i k
     → f ≡ ρ k.pivot → ρ k.pivot ≢ num_zero → TimesGrows ρ f (coeff k.entries.items) → ReducingGrows (kepts ks) ρ0
 reducing-grows ks ρ0 ρ i k f s h e p z g = (reducing-at ks ρ0 ρ i k s h e).from (inl (cleared-grows k ρ f p z g))
-
-pub reducing-end : (ks : List KeptRow) (ρ0 : Line) (i : ℕ) (es : List Entry) → IsReducing (kepts ks) ρ0 (kepts (drop i ks)) (coeff es) → IsRow es → length ks ≤ i → IsReducedRow (kepts ks) ρ0 es
-reducing-end ks ρ0 i es s r h =
-    let m : IsReducing (kepts ks) ρ0 [] (coeff es) = subst (λ l. IsReducing (kepts ks) ρ0 (kepts l) (coeff es)) (kept-none ks i h) s in
-    record { is_row = r; same = m.same; calm = λ g. m.then g }
 
 -- ---- keeping
 pub kept-made : (κs : List Kept) (ρ : Line) (new : KeptRow) (next out : List KeptRow) → IsScaledRow ρ new → AreCleared (kept_of new) κs next → out ≡ next ++ new ∷ [] → IsKeptRow κs ρ out
@@ -384,23 +360,9 @@ kept-made κs ρ new next out s c o = record {
   calm_clear = subst (λ κ. ClearingGrows κ κs → ⊥) s.same c.calm;
 }
 
-pub kept-fails : (κs : List Kept) (ρ : Line) (new : KeptRow) → IsScaledRow ρ new → ClearingGrows (kept_of new) κs → CannotKeep κs ρ
-kept-fails κs ρ new s g = record { place = new.pivot; inverse = s.inverse; pivot = s.pivot; grows = inr (subst (λ κ. ClearingGrows κ κs) s.same g) }
-
-pub scale-fails : (κs : List Kept) (ρ : Line) → CannotScale ρ → CannotKeep κs ρ
-scale-fails κs ρ s = record { place = s.place; inverse = s.inverse; pivot = s.pivot; grows = inl s.grows }
-
 -- ---- one row more
-pub line-head : (rs : List Row) (i : ℕ) (r : Row) → i < length rs → r ≡ get_or rs i r → drop i rs ≡ r ∷ drop (i + 1) rs
-line-head rs i r h e = drop-cons rs i r h ∙ (λ j. sym e j ∷ drop (sym (add-one i) j) rs)
-
-pub given-row : (rs : List Row) (i : ℕ) (r : Row) → i < length rs → r ≡ get_or rs i r → AreGivenRows rs → IsRow r.entries.items
-given-row [] i r h e a = absurd (omega (arith, h))
-given-row (x ∷ rs) zero r h e a = subst (λ y. IsRow y.entries.items) (sym e) a.0
-given-row (x ∷ rs) (suc i) r h e a = given-row rs i r (omega (arith, h)) e a.1
-
 pub state-at : (all : List Line) (κs : List Kept) (rs : List Row) (i : ℕ) (r : Row) → IsState all κs (lines (drop i rs)) → i < length rs → r ≡ get_or rs i r → IsState all κs (coeff r.entries.items ∷ lines (drop (i + 1) rs))
-state-at all κs rs i r s h e = subst (λ l. IsState all κs (lines l)) (line-head rs i r h e) s
+state-at all κs rs i r s h e = subst (λ l. IsState all κs (lines l)) (drop_head rs i r h e) s
 
 pub skip-at : (all : List Line) (κs : List Kept) (ρ : Line) (ρs : List Line) (left : List Entry) → IsState all κs (ρ ∷ ρs) → IsReducedRow κs ρ left → length left ≡ 0 → IsState all κs ρs
 skip-at all κs ρ ρs left s d z = state-skip all κs ρ ρs s d.calm (λ u. (λ i. sym d.same i u) ∙ coeff-empty left u z)

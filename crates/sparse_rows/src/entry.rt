@@ -1,5 +1,6 @@
 //! Rows, as lists of the unknowns at which they aren't 0.
 use exact_frac::Frac;
+use smallvec::SmallVec;
 use thiserror::Error;
 
 /// An unknown, by its place in the order of the unknowns, with its fraction.
@@ -9,10 +10,19 @@ pub struct Entry {
     pub value: Frac,
 }
 
+impl Default for Entry {
+    fn default() -> Entry {
+        Entry {
+            unknown: 0,
+            value: Frac::zero(),
+        }
+    }
+}
+
 /// A row: the unknowns at which it isn't 0, rising.
 #[derive(Debug, Drop)]
 pub struct Row {
-    pub entries: Vec<Entry>,
+    pub entries: SmallVec<Entry, 4>,
 }
 
 /// A row that is kept, with its pivot.

@@ -4,6 +4,7 @@ ghost use Rattle.sparse_rows.specs.WholeRows.{AreWhole, IsWholeRow};
 
 use crate::entry::{Entry, NoMemory, Row};
 use exact_frac::Frac;
+use smallvec::SmallVec;
 use std::alloc::Global;
 
 /// An unknown, by its place in the order of the unknowns, with a whole number.
@@ -18,9 +19,7 @@ pub fn row_of_whole(alloc: Global, entries: &[WholeEntry]) -> Result<Row, NoMemo
     requires { AreWhole entries.now }
     ensures { IfOk result (λ r. IsWholeRow entries.now r.entries.items) }
 {
-    let Ok(mut taken) = Vec::with_capacity(alloc, entries.len()) else {
-        return Err(NoMemory);
-    };
+    let mut taken = SmallVec::new(alloc);
     for entry in entries {
         let WholeEntry { unknown, number } = *entry;
         let value = Frac::of_whole(number);

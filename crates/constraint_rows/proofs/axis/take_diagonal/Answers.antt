@@ -1,5 +1,5 @@
-use Rattle.std.proofs.Common.{◌≡◌, ◌+◌, ◌∙◌, true, false, get_or, subst, sym}
-use Rattle.tensor_defs.specs.Prelude.{IsDiagonal, Operation, identity}
+use Rattle.std.proofs.Common.{◌≡◌, ◌+◌, ◌∙◌, true, false, subst, sym}
+use Rattle.tensor_defs.specs.Prelude.{identity}
 use Rattle.tensor_rank.specs.Flags.{marks_of}
 use Rattle.constraint_rows.specs.Marking.{AreDiagonals}
 use Rattle.constraint_rows.proofs.DiagonalLaws.{diagonal_plain, diagonals_more, diagonals_skip}

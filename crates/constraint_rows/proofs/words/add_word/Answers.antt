@@ -1,4 +1,4 @@
-use Rattle.std.proofs.Common.{◌≡◌, ◌≤◌, ◌++◌, List, length, ap, sym, ◌∙◌, subst}
+use Rattle.std.proofs.Common.{◌≡◌, ◌≤◌, List, length, sym, ◌∙◌, subst}
 use Rattle.tensor_rank.specs.Orders.{before_at}
 use Rattle.constraint_rows.specs.Prelude.{is_chosen, AreTermsBelow, terms_from, word_at, AreParts}
 use Rattle.constraint_rows.specs.declared.words.Term.{Term}
@@ -9,13 +9,13 @@ use Rattle.constraint_rows.proofs.words.add_word.Goals as goal
 pub gather-requires-clause-below : goal.gather-requires-clause-below
 gather-requires-clause-below g c =
     let terms = terms_from 0 0 (word_at g.R.Rank.R c.args.word) in
-    let listed : c.deref.result.now ≡ terms = c.deref.ensures.value ∙ c.in_ok-list_terms.ensures ∙ ap (λ (ts : List Term). ts ++ terms) c.clear.ensures.items in
+    let listed : c.deref.result.now ≡ terms = c.deref.ensures.value ∙ c.in_ok-list_terms.ensures in
     subst (AreTermsBelow g.R.Rank.LEN) (sym listed) (word_terms_below g.R.Rank.LEN g.R.Rank.R c.args.word g.R.Rank.power)
 
 pub gather-requires-clause-few : goal.gather-requires-clause-few
 gather-requires-clause-few g c =
     let terms = terms_from 0 0 (word_at g.R.Rank.R c.args.word) in
-    let listed : c.deref.result.now ≡ terms = c.deref.ensures.value ∙ c.in_ok-list_terms.ensures ∙ ap (λ (ts : List Term). ts ++ terms) c.clear.ensures.items in
+    let listed : c.deref.result.now ≡ terms = c.deref.ensures.value ∙ c.in_ok-list_terms.ensures in
     subst (λ (ts : List Term). length ts ≤ 729) (sym listed) (word_terms_few g.R.Rank.LEN g.R.Rank.R c.args.word g.R.Rank.power g.R.Rank.fits)
 
 pub of_parts-requires : goal.of_parts-requires
@@ -27,7 +27,7 @@ of_parts-requires-2 g c = subst (AreParts g.R.Rank.LEN) (sym c.deref-3.ensures.v
 pub returns : goal.returns
 returns g c =
     let terms = terms_from 0 0 (word_at g.R.Rank.R c.args.word) in
-    let listed : c.deref.result.now ≡ terms = c.deref.ensures.value ∙ c.in_ok-list_terms.ensures ∙ ap (λ (ts : List Term). ts ++ terms) c.clear.ensures.items in
+    let listed : c.deref.result.now ≡ terms = c.deref.ensures.value ∙ c.in_ok-list_terms.ensures in
     word_made g.R.Rank.LEN g.R.Rank.R g.R.Rank.power g.R.Rank.fits (before_at g.R.Rank.R c.args.order.now)
     (order_total g.R.Rank.LEN g.R.Rank.R g.R.Rank.power c.args.order.now) c.args.classes.now c.requires.sound (is_chosen c.args.rotations) c.args.word
     c.args.rows.now.items _ _ _ _ c.deref.result.now c.deref.result.now (sym c.is_chosen.ensures ∙ c.if-not-is_chosen.false) c.requires.rows

@@ -14,7 +14,7 @@ returns-in_err-reduce_row-clause-grows c =
     let h : i < length rs = c.loop-row-test.true in
     let s = state-at (lines rs) (kepts c.loop-row.kept.items) rs i r c.loop-row.invariant.0 h c.row-item.is in
     err-same c.from_residual.result c.in_err-reduce_row.field-0.0 c.from_residual.ensures.1 (λ p. grows-reducing (lines rs) (kepts c.loop-row.kept.items) (coeff r.entries.items) (lines (drop (i + 1) rs)) s
-    (reducing_same _ _ _ _ c.deref-in-loop-row.ensures.value c.deref.ensures.value (c.in_err-reduce_row.ensures.grows p)))
+    (reducing_same _ _ _ _ c.deref-in-loop-row.ensures.value c.deref.ensures (c.in_err-reduce_row.ensures.grows p)))
 
 pub returns-in_err-kept-clause-grows : goal.returns-in_err-kept-clause-grows
 returns-in_err-kept-clause-grows c =
@@ -23,7 +23,7 @@ returns-in_err-kept-clause-grows c =
     let r = c.row-item.result in
     let h : i < length rs = c.loop-row-test.true in
     let s = state-at (lines rs) (kepts c.loop-row.kept.items) rs i r c.loop-row.invariant.0 h c.row-item.is in
-    let d = reduced-same _ _ _ _ c.reduce_row.new.left.items c.deref-in-loop-row.ensures.value c.deref.ensures.value c.in_ok-reduce_row.ensures.reduced in
+    let d = reduced-same _ _ _ _ c.reduce_row.new.left.items c.deref-in-loop-row.ensures.value c.deref.ensures c.in_ok-reduce_row.ensures.reduced in
     err-same c.from_residual-in_err-kept.result c.in_err-kept.field-0.0 c.from_residual-in_err-kept.ensures.1 (λ p. keep-fails (lines rs) (kepts c.loop-row.kept.items) (coeff r.entries.items) (lines (drop (i + 1) rs)) c.reduce_row.new.left.items s d
     (cannot-same c.loop-row.kept.items _ _ _ refl c.deref-then-len-gt0.ensures.value (c.in_err-kept.ensures.grows p)))
 
@@ -34,12 +34,12 @@ loop-row-preserved c =
     let r = c.row-item.result in
     let h : i < length rs = c.loop-row-test.true in
     let s = state-at (lines rs) (kepts c.loop-row.kept.items) rs i r c.loop-row.invariant.0 h c.row-item.is in
-    let d = reduced-same _ _ _ _ c.reduce_row.new.left.items c.deref-in-loop-row.ensures.value c.deref.ensures.value c.in_ok-reduce_row.ensures.reduced in
+    let d = reduced-same _ _ _ _ c.reduce_row.new.left.items c.deref-in-loop-row.ensures.value c.deref.ensures c.in_ok-reduce_row.ensures.reduced in
     elim c.if-len-gt0.branch [
       | then-len-gt0+in_ok-kept w ↦
           let k = kept-same c.loop-row.kept.items _ _ c.if-len-gt0.kept.items _ _ refl w.deref-then-len-gt0.ensures.value (λ j. (w.kept-is j).items) w.in_ok-kept.ensures.kept in
           let m : AreMarked c.loop-row.seen r.entries.items w.mark_all.new.marks =
-          subst (λ (x : List Entry). AreMarked c.loop-row.seen x w.mark_all.new.marks) w.deref-then-len-gt0-2.ensures.value w.mark_all.ensures in (
+          subst (λ (x : List Entry). AreMarked c.loop-row.seen x w.mark_all.new.marks) w.deref-then-len-gt0-2.ensures w.mark_all.ensures in (
             keep-at (lines rs) (kepts c.loop-row.kept.items) (coeff r.entries.items) (lines (drop (i + 1) rs)) c.reduce_row.new.left.items c.if-len-gt0.kept.items s d k,
             k.are_rows,
             (omega (arith, h)),

@@ -1,6 +1,6 @@
 use Rattle.std.proofs.Common.{◌<◌, refl, subst, sym, length, arith, []}
 use Rattle.sparse_rows.specs.Prelude.{kepts, AreSolved}
-use Rattle.sparse_rows.proofs.RowSteps.{kept-row}
+use Rattle.list_laws.proofs.Members.{each_read}
 use Rattle.sparse_rows.proofs.PivotSums.{leading-at, solved-at, solved-end}
 use Rattle.sparse_rows.proofs.solution.pivot_sums.Goals as goal
 
@@ -8,7 +8,7 @@ pub loop-row-init : goal.loop-row-init
 loop-row-init c = (subst (AreSolved (kepts c.args.kept.now) []) (sym c.in-Ok.ensures.items) tt, (omega arith))
 
 pub pivot_sum-requires-clause-row : goal.pivot_sum-requires-clause-row
-pivot_sum-requires-clause-row c = kept-row c.args.kept.now c.loop-row.row-index c.row-item.result c.loop-row-test.true c.row-item.is c.requires.rows
+pivot_sum-requires-clause-row c = each_read _ c.args.kept.now c.requires.rows c.loop-row.row-index c.row-item.result c.loop-row-test.true c.row-item.is
 
 pub pivot_sum-requires-clause-leading : goal.pivot_sum-requires-clause-leading
 pivot_sum-requires-clause-leading c = leading-at c.args.kept.now c.loop-row.row-index c.row-item.result c.loop-row-test.true c.row-item.is c.requires.reduced

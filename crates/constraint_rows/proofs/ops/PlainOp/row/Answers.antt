@@ -1,4 +1,4 @@
-use Rattle.list_laws.proofs.Kit.{◌≡◌, ◌≤◌, take, length, arith, IfOk-weaker}
+use Rattle.list_laws.proofs.Kit.{◌≡◌, ◌≤◌, arith, IfOk-weaker}
 use Rattle.constraint_rows.proofs.OpRowLaws.{small_parts, op_row}
 use Rattle.constraint_rows.proofs.ops.PlainOp.row.Goals as goal
 
