@@ -1,4 +1,5 @@
 pub mod Factors
 pub mod Reaching
+pub mod Fronts
 pub mod Acting
 pub mod Turns

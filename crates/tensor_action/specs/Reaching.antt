@@ -5,9 +5,9 @@
 --   IsPart          the product of a part is the coefficient of its component
 --   part_at, numbers, ArePartsBelow    the part at a place; the numbers of parts; those below an end: their numbers, and their products
 --   AreParts        all parts of a component
---   Extends         the parts with one index more in front, up to those of a column
+--   Extends         the parts with one index more behind, up to a part and a column
 -- Source: International Tables D 1.1.
-use Rattle.std.specs.Prelude.{◌≡◌, ℕ, ◌+◌, ◌*◌, ◌<◌, ◌≤◌, ◌^◌, List, [], ◌∷◌, length, map, get_or}
+use Rattle.std.specs.Prelude.{◌≡◌, ℕ, ◌+◌, ◌*◌, ◌<◌, ◌≤◌, ◌^◌, List, [], ◌∷◌, ◌++◌, length, map, get_or}
 use Rattle.tensor_defs.specs.Prelude.{Each, num_zero, Axis, Operation, Index, coefficient, index_of}
 use Rattle.tensor_defs.specs.declared.Sign.TheVariants.{Plus}
 use Rattle.tensor_action.specs.Factors.{IsWithin, product_number}
@@ -44,8 +44,8 @@ pub record ArePartsBelow (g : Operation) (is : Index) (ps : List Part) (end : �
 abbrev pub AreParts : Operation → Index → List Part → Type 0
 AreParts g is ps = ArePartsBelow g is ps (3 ^ length is)
 
--- of w components each, those of the column stand behind the offset
-abbrev pub Extends : Operation → Axis → ℕ → ℕ → List Part → List Part → List Part → Type 0
-Extends g i col offset ps old new =
-    (is : Index) (w : ℕ) → w ≡ 3 ^ length is → offset ≡ w * col → AreParts g is ps →
-    ArePartsBelow g (i ∷ is) old offset → ArePartsBelow g (i ∷ is) new (offset + w)
+-- what a list of parts becomes at a column
+abbrev pub Extends : Operation → Axis → ℕ → Part → List Part → List Part → Type 0
+Extends g i col p old new =
+    (is : Index) → IsPart g is p → p.number < 3 ^ length is →
+    ArePartsBelow g (is ++ i ∷ []) old (3 * p.number + col) → ArePartsBelow g (is ++ i ∷ []) new (3 * p.number + col + 1)
