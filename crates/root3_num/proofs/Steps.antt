@@ -1,9 +1,9 @@
 -- When a sum or a product of numbers a + b√3 is refused.
 --   held-root    a pair of fractions that are held, as a number
 --   AStepReaches    one of the steps of a product reaches the limit
---   err-sum    a refusal, whatever its error
+--   sum-refused, product-refused    a refusal, whatever its error
 --   roots-same    whether two pairs are one number
-use Rattle.list_laws.proofs.Kit.{◌≡◌, ◌⊎◌, inl, inr, refl, sym, ◌∙◌, subst, lit<, Result, Ok, Err, false≢true, IsErr}
+use Rattle.list_laws.proofs.Kit.{◌≡◌, ◌⊎◌, inl, inr, refl, ap, sym, ◌∙◌, subst, lit<, Result, Ok, Err, false≢true, IsErr}
 use lib.IntN.{pos}
 use Rattle.tensor_defs.specs.Number.{Number, Fraction, Root3, IsFraction, HasParts, ReachesLimit, PartReaches, ProductReaches, value_of, add, mul, whole, root_3, num_zero, IsLowest}
 use Rattle.number_laws.proofs.Limit.{one_fraction}
@@ -53,11 +53,6 @@ sums-parts r s h k =
       same = sum-parts (value_of r.a) (value_of r.b) (value_of s.a) (value_of s.b) root_3;
     }
 
-pub sum-reaches : (r s : Root3) → AreHeld r → AreHeld s →
-    ReachesLimit (add (value_of r.a) (value_of s.a)) ⊎ ReachesLimit (add (value_of r.b) (value_of s.b)) →
-    PartReaches (add (value_of_root r) (value_of_root s))
-sum-reaches r s h k l = (add (value_of r.a) (value_of s.a), add (value_of r.b) (value_of s.b), sums-parts r s h k, l)
-
 pub sum-is : (r s : Root3) (f g : Fraction) → AreHeld r → AreHeld s → IsHeldAs (add (value_of r.a) (value_of s.a)) f →
     IsHeldAs (add (value_of r.b) (value_of s.b)) g →
     IsHeldRoot (add (value_of_root r) (value_of_root s)) (record { a = f; b = g })
@@ -78,11 +73,6 @@ AStepReaches a b c d =
     ReachesLimit (mul a c) ⊎ ReachesLimit (mul b d) ⊎ ReachesLimit (mul (whole (pos 3)) (mul b d))
     ⊎ ReachesLimit (add (mul a c) (mul (whole (pos 3)) (mul b d)))
     ⊎ ReachesLimit (mul a d) ⊎ ReachesLimit (mul b c) ⊎ ReachesLimit (add (mul a d) (mul b c))
-
-pub product-reaches : (r s : Root3) → AreHeld r → AreHeld s →
-    AStepReaches (value_of r.a) (value_of r.b) (value_of s.a) (value_of s.b) → ProductReaches (value_of_root r) (value_of_root s)
-product-reaches r s h k l =
-    (value_of r.a, value_of r.b, value_of s.a, value_of s.b, own-parts r h, own-parts s k, l)
 
 pub product-calm : (r s : Root3) → AreHeld r → AreHeld s →
     (AStepReaches (value_of r.a) (value_of r.b) (value_of s.a) (value_of s.b) → ⊥) →
@@ -115,14 +105,22 @@ product-is r s h k ac bd t a ad bc b u1 u2 u3 u4 u5 u6 u7 = (
   ]),
 )
 
--- a refusal, whatever its error
-pub err-sum : (x : Number) (r : Result Root3 TooLarge) → IsErr r → PartReaches x → IsExactSum x r
-err-sum x (Ok f) h p = absurd (false≢true h)
-err-sum x (Err e) h p = p
+-- a refusal, whatever its error, of numbers whose parts are r and s
+module _ (r s v w : Root3) (p : r ≡ v) (q : s ≡ w) (h : AreHeld r) (k : AreHeld s) where
+  pub sum-refused : (x : Result Root3 TooLarge) → IsErr x →
+      ReachesLimit (add (value_of r.a) (value_of s.a)) ⊎ ReachesLimit (add (value_of r.b) (value_of s.b)) →
+      IsExactSum (add (value_of_root v) (value_of_root w)) x
+  sum-refused (Ok f) e l = absurd (false≢true e)
+  sum-refused (Err f) e l = subst PartReaches (λ i. add (value_of_root (p i)) (value_of_root (q i)))
+      (add (value_of r.a) (value_of s.a), add (value_of r.b) (value_of s.b), sums-parts r s h k, l)
 
-pub err-product : (x y : Number) (r : Result Root3 TooLarge) → IsErr r → ProductReaches x y → IsExactProduct x y r
-err-product x y (Ok f) h p = absurd (false≢true h)
-err-product x y (Err e) h p = p
+  pub product-refused : (x : Result Root3 TooLarge) → IsErr x →
+      AStepReaches (value_of r.a) (value_of r.b) (value_of s.a) (value_of s.b) →
+      IsExactProduct (value_of_root v) (value_of_root w) x
+  product-refused (Ok f) e l = absurd (false≢true e)
+  product-refused (Err f) e l =
+      subst (λ n. ProductReaches n (value_of_root w)) (ap value_of_root p) (subst (λ n. ProductReaches (value_of_root r) n) (ap value_of_root q)
+      (value_of r.a, value_of r.b, value_of s.a, value_of s.b, own-parts r h, own-parts s k, l))
 
 -- whether two pairs are one number
 pub roots-same : (r s : Root3) → AreHeld r → AreHeld s → value_of_root r ≡ value_of_root s → (r.a ≡ s.a) × (r.b ≡ s.b)
