@@ -1,11 +1,12 @@
 -- When a sum or a product of numbers a + b√3 is refused.
+--   zero_held, zero_has, zero_small    the number 0
 --   held-root    a pair of fractions that are held, as a number
 --   AStepReaches    one of the steps of a product reaches the limit
 --   sum-refused, product-refused    a refusal, whatever its error
 --   roots-same    whether two pairs are one number
 use Rattle.list_laws.proofs.Kit.{◌≡◌, ◌⊎◌, inl, inr, refl, ap, sym, ◌∙◌, subst, lit<, Result, Ok, Err, false≢true, IsErr}
 use lib.IntN.{pos}
-use Rattle.tensor_defs.specs.Number.{Number, Fraction, Root3, IsFraction, HasParts, ReachesLimit, PartReaches, ProductReaches, value_of, add, mul, whole, root_3, num_zero, IsLowest}
+use Rattle.tensor_defs.specs.Number.{Number, Fraction, Root3, IsFraction, HasParts, ReachesLimit, PartReaches, ProductReaches, value_of, add, mul, whole, root_3, num_zero}
 use Rattle.number_laws.proofs.Limit.{one_fraction}
 use Rattle.exact_frac.specs.Held.{IsHeld, IsHeldAs, zero_over_one}
 use Rattle.exact_frac.proofs.Divisors.{gcd-one}
@@ -22,6 +23,25 @@ as-fraction x f h = record { same = h.same; terms = h.held.terms }
 
 pub own-fraction : (f : Fraction) → IsHeld f → IsFraction (value_of f) f
 own-fraction f h = record { same = refl; terms = h.terms }
+
+-- ---- 0
+pub zero_held : IsHeldAs num_zero zero_over_one
+zero_held = record {
+  same = sym (over-zero 1);
+  held = record { terms = record { positive = lit< tt; lowest = gcd-one 0 }; small_num = lit< tt; small_den = lit< tt };
+}
+
+pub zero_has : HasParts num_zero num_zero num_zero
+zero_has = record {
+  fraction_a = zero_over_one;
+  fraction_b = zero_over_one;
+  is_a = as-fraction num_zero zero_over_one zero_held;
+  is_b = as-fraction num_zero zero_over_one zero_held;
+  same = sym zero-parts;
+}
+
+pub zero_small : (x : Number) → x ≡ num_zero → ReachesLimit x → ⊥
+zero_small x e = held-not_large x zero_over_one (record { same = e ∙ zero_held.same; held = zero_held.held })
 
 -- a pair of fractions that are held, as a number
 pub held-root : (x a b : Number) (f g : Fraction) → IsHeldAs a f → IsHeldAs b g → x ≡ add a (mul b root_3) →
@@ -125,30 +145,14 @@ module _ (r s v w : Root3) (p : r ≡ v) (q : s ≡ w) (h : AreHeld r) (k : AreH
 -- whether two pairs are one number
 pub roots-same : (r s : Root3) → AreHeld r → AreHeld s → value_of_root r ≡ value_of_root s → (r.a ≡ s.a) × (r.b ≡ s.b)
 roots-same r s h k e =
-    let u = own-parts r h in
-    let p = one-parts (value_of_root r) (value_of r.a) (value_of r.b) (value_of s.a) (value_of s.b) u (record {
-      fraction_a = s.a;
-      fraction_b = s.b;
-      is_a = own-fraction s.a k.held_a;
-      is_b = own-fraction s.b k.held_b;
-      same = e;
-    }) in
+    let p = one-parts (value_of_root r) (value_of r.a) (value_of r.b) (value_of s.a) (value_of s.b) (own-parts r h)
+    (subst (λ x. HasParts x (value_of s.a) (value_of s.b)) (sym e) (own-parts s k)) in
     (one_fraction r.a s.a h.held_a.terms k.held_a.terms p.0, one_fraction r.b s.b h.held_b.terms k.held_b.terms p.1)
-
-zero_lowest : IsLowest zero_over_one
-zero_lowest = record { positive = lit< tt; lowest = gcd-one 0 }
 
 pub root-zero : (r : Root3) → AreHeld r → value_of_root r ≡ num_zero → (value_of r.a ≡ num_zero) × (value_of r.b ≡ num_zero)
 root-zero r h e =
-    let z : num_zero ≡ value_of zero_over_one = sym (over-zero 1) in
-    let u = own-parts r h in
-    one-parts (value_of_root r) (value_of r.a) (value_of r.b) num_zero num_zero u (record {
-      fraction_a = zero_over_one;
-      fraction_b = zero_over_one;
-      is_a = record { same = z; terms = zero_lowest };
-      is_b = record { same = z; terms = zero_lowest };
-      same = e ∙ sym zero-parts;
-    })
+    one-parts (value_of_root r) (value_of r.a) (value_of r.b) num_zero num_zero (own-parts r h)
+    (subst (λ x. HasParts x num_zero num_zero) (sym e) zero_has)
 
 pub zero-root : (r : Root3) → value_of r.a ≡ num_zero → value_of r.b ≡ num_zero → value_of_root r ≡ num_zero
 zero-root r e f = (λ i. add (e i) (mul (f i) root_3)) ∙ zero-parts

@@ -1,8 +1,8 @@
 pub mod DeterminantLaws
 pub mod FactorLaws
-mod Between
 pub mod IndexPlaces
 pub mod SumLaws
 pub mod Reach
+mod Between
 pub mod Walks
 pub mod CarryLaws

@@ -1,8 +1,8 @@
 -- Which components a component takes from, index by index.
 --   covers-skip, covers-push    coverings with a range or a number behind
---   index-behind, front-index    one index more behind, and all indices but the last
+--   index-behind, front-index, coefficient-behind    one index more behind, and all indices but the last
 --   passed, taken    the parts at a column that isn't taken, and at one that is
---   IsExtending, extend-start, extend-more, extend-end    the parts with an index more, behind, for the first parts
+--   IsExtending, extend-more, extend-end    the parts with an index more, behind, for the first parts
 --   reach-none, reach-more, reach-end    no index, one index more, and the last one
 --   parts-few, parts-small, parts-within, bounded    how many parts there are, how large the numbers and the products are
 use Rattle.list_laws.proofs.Kit.{◌≡◌, ℕ, zero, suc, ◌+◌, ◌-◌, ◌*◌, ◌/◌, ◌%◌, ◌<◌, ◌≤◌, ◌^◌, inl, inr, List, [], ◌∷◌, ◌++◌, length, map, drop, take, refl, ap, sym, ◌∙◌, subst, arith, lit<}
@@ -80,7 +80,7 @@ front-index (suc r) c h l =
     (ap (take r) (ap (index_of (suc r)) (sym split) ∙ index-behind r k (c % 3) below (mod-lt c (lit< tt)))
     ∙ take-append-le r (index_of r k) (axis (c % 3) ∷ []) (omega (arith, long)) ∙ take_all r (index_of r k) (omega (arith, long)))
 
-coefficient-behind : (g : Operation) (is js : Index) (i j : Axis) → length is ≡ length js →
+pub coefficient-behind : (g : Operation) (is js : Index) (i j : Axis) → length is ≡ length js →
     coefficient g (is ++ i ∷ []) (js ++ j ∷ []) ≡ mul (coefficient g is js) (value g i j)
 coefficient-behind g [] [] i j e = num_mul_comm (value g i j) num_one
 coefficient-behind g [] (b ∷ js) i j e = absurd (omega (arith, e))
@@ -151,14 +151,6 @@ module _ (g : Operation) (i : Axis) (is : Index) where
           within = subst (λ b. IsWithin b q) size within;
         }));
       }
-
-  pub extend-start : (ps out : List Part) → out ≡ [] → AreParts g is ps → IsExtending g i is (drop 0 ps) out
-  extend-start ps out e w = record {
-    from = 0;
-    covers = w.covers;
-    parts = w.parts;
-    below = subst (λ l. ArePartsBelow g more l 0) (sym e) (record { covers = (omega arith, λ k p q. absurd (omega (arith, q))); parts = tt });
-  }
 
   pub extend-more : (ps : List Part) (k : ℕ) (out one two three : List Part) → k < length ps →
       Extends g i 0 (part_at ps k) out one → Extends g i 1 (part_at ps k) one two → Extends g i 2 (part_at ps k) two three →

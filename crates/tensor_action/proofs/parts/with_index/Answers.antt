@@ -1,7 +1,7 @@
 use Rattle.std.proofs.Common.{◌<◌, ◌∙◌, length, arith}
 use Rattle.op_matrix.specs.View.{axis}
 use Rattle.tensor_action.proofs.FactorLaws.{entry_value}
-use Rattle.tensor_action.proofs.Reach.{extend-end, extend-more, extend-start}
+use Rattle.tensor_action.proofs.Reach.{extend-end, extend-more}
 use Rattle.tensor_action.proofs.parts.with_index.Goals as goal
 
 pub loop-place-preserved : goal.loop-place-preserved
