@@ -8,7 +8,7 @@ use Rattle.std.proofs.lemmas.List.{get_or-set_same, get_or-set_other, length-set
 use Rattle.std.proofs.lemmas.Bool.Decides.{nat_tests}
 use Rattle.std.specs.Prelude.{◌==◌, if◌then◌else◌}
 use lib.IntN.{ℤ, pos, negsuc}
-use Rattle.tensor_defs.specs.Prelude.{IsRising, Number, Fraction, Root3, over, add, mul, neg, whole, num_zero, num_one, root_3, value_of, HasParts}
+use Rattle.tensor_defs.specs.Prelude.{IsRising, Number, Fraction, Root3, over, add, mul, neg, whole, num_zero, num_one, root_3, value_of}
 use Rattle.tensor_defs.specs.Prelude.{PartReaches, ProductReaches, places_rise}
 use Rattle.text_defs.specs.NumberTexts.{int_is, is_one}
 use Rattle.number_laws.proofs.NumberLaws.{num_add-zero, num_mul-zero, num_zero-add, num_zero-mul, num_mul-one, num_mul_comm, num_neg-neg}
@@ -17,7 +17,6 @@ use Rattle.exact_frac.proofs.Overs.{over-zero}
 use Rattle.root3_num.specs.Answers.{IsExactProduct}
 use Rattle.root3_num.specs.Roots.{AreHeld, IsHeldRoot, value_of_root}
 use Rattle.root3_num.specs.declared.root.TooLarge.{TooLarge}
-use Rattle.root3_num.proofs.RootParts.{one-parts}
 use Rattle.root3_num.proofs.Steps.{product-is, zero_held}
 use Rattle.reduced_form.specs.declared.forms.Term.{Term}
 use Rattle.reduced_form.specs.Forms.{term_of}

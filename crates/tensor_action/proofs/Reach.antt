@@ -3,9 +3,9 @@
 --   index-behind, front-index, coefficient-behind    one index more behind, and all indices but the last
 --   passed, taken    the parts at a column that isn't taken, and at one that is
 --   IsExtending, extend-more, extend-end    the parts with an index more, behind, for the first parts
---   reach-none, reach-more, reach-end    no index, one index more, and the last one
+--   reach-more, reach-end    one index more, and the last one
 --   parts-few, parts-small, parts-within, bounded    how many parts there are, how large the numbers and the products are
-use Rattle.list_laws.proofs.Kit.{◌≡◌, ℕ, zero, suc, ◌+◌, ◌-◌, ◌*◌, ◌/◌, ◌%◌, ◌<◌, ◌≤◌, ◌^◌, inl, inr, List, [], ◌∷◌, ◌++◌, length, map, drop, take, refl, ap, sym, ◌∙◌, subst, arith, lit<}
+use Rattle.list_laws.proofs.Kit.{◌≡◌, ℕ, zero, suc, ◌+◌, ◌-◌, ◌*◌, ◌/◌, ◌%◌, ◌<◌, ◌≤◌, ◌^◌, inl, inr, List, [], ◌∷◌, ◌++◌, length, drop, take, refl, ap, sym, ◌∙◌, subst, arith, lit<}
 use Rattle.list_laws.proofs.Kit.{cases_lt, div-add-mod, drop_all, drop_more, length-map, length-take-le, length_push, map_push, pow-le-pow_right, pow-suc, take-append-le, take_all, take_more}
 use native.Mathlib.Nat.{mod-lt}
 use Rattle.tensor_defs.specs.Prelude.{Each, mul, num_one, num_zero, Axis, x1, Operation, value, Index, axis_at, axis_place, coefficient, component_number, digit, index_of}
@@ -182,15 +182,6 @@ module _ (g : Operation) (i : Axis) (is : Index) where
       (skipped here.from (3 ^ length is) out here.covers.0 (omega arith) here.covers.1 here.below)
 
 -- ---- all indices, from the first to the last
-pub reach-none : (g : Operation) (p : Part) (ps : List Part) → ps ≡ p ∷ [] → p.number ≡ 0 → product_number p.product ≡ num_one →
-    IsWithin 1 p.product → AreParts g [] ps
-reach-none g p ps e n one within =
-    subst (AreParts g []) (sym e) (record {
-      covers = subst (λ k. Covers (IsNone g []) 0 (k ∷ []) 1) (sym n)
-          (omega arith, omega arith, (λ k p q. absurd (omega (arith, q))), (omega arith, λ k p q. absurd (omega (arith, p, q))));
-      parts = (record { value = one; within = within }, tt);
-    })
-
 pub reach-more : (g : Operation) (is : Index) (k d : ℕ) (ps : List Part) → k < length is → d ≡ digit (nth is k) →
     AreParts g (take k is ++ axis (d - 1) ∷ []) ps → AreParts g (take (k + 1) is) ps
 reach-more g is k d ps h e =

@@ -4,7 +4,7 @@
 --   IsSummed, summed-start, summed-more, summed-grows, summed-end, summed-calm    the sum of the first n products
 use Rattle.list_laws.proofs.Kit.{◌≡◌, ℕ, ◌+◌, ◌<◌, ◌≤◌, ◌^◌, ◌⊎◌, inl, inr, take, ap, sym, ◌∙◌, subst, arith, Result, Ok, Err, cases_lt, take_all}
 use lib.IntN.{pos}
-use Rattle.tensor_defs.specs.Prelude.{Number, Root3, add, mul, whole, num_zero, root_3, HasParts, ReachesLimit, PartReaches, ProductReaches, sum_of, Index}
+use Rattle.tensor_defs.specs.Prelude.{Number, Root3, add, mul, whole, num_zero, root_3, HasParts, PartReaches, ProductReaches, sum_of, Index}
 use Rattle.tensor_defs.specs.Prelude.{Tensor, component_number, index_of, indices}
 use Rattle.number_laws.proofs.NumberLaws.{num_add-zero, num_mul-zero, num_zero-mul}
 use Rattle.tensor_laws.proofs.ComponentNumbers.{length-index_of}

@@ -1,4 +1,4 @@
-use Rattle.std.proofs.Common.{◌≡◌, ◌-◌, ◌/◌, ◌∙◌, take, ap, sym, subst, arith}
+use Rattle.std.proofs.Common.{◌-◌, ◌/◌, ◌∙◌, take, ap, sym, subst, arith}
 use Rattle.tensor_defs.specs.Tensor.{index_of}
 use Rattle.tensor_action.specs.Fronts.{IsFront}
 use Rattle.tensor_action.specs.Reaching.{AreParts}
