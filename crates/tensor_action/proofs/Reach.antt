@@ -4,9 +4,9 @@
 --   passed, taken    the parts at a column that isn't taken, and at one that is
 --   IsExtending, extend-more, extend-end    the parts with an index more, behind, for the first parts
 --   reach-more, reach-end    one index more, and the last one
---   parts-few, parts-small, parts-within, bounded    how many parts there are, how large the numbers and the products are
+--   numbers-small, numbers-few, bounded    how many parts there are, how large the numbers and the products are
 use Rattle.list_laws.proofs.Kit.{◌≡◌, ℕ, zero, suc, ◌+◌, ◌-◌, ◌*◌, ◌/◌, ◌%◌, ◌<◌, ◌≤◌, ◌^◌, inl, inr, List, [], ◌∷◌, ◌++◌, length, drop, take, refl, ap, sym, ◌∙◌, subst, arith, lit<}
-use Rattle.list_laws.proofs.Kit.{cases_lt, div-add-mod, drop_all, drop_more, length-map, length-take-le, length_push, map_push, pow-le-pow_right, pow-suc, take-append-le, take_all, take_more}
+use Rattle.list_laws.proofs.Kit.{cases_lt, div-add-mod, drop_all, drop_more, length-take-le, length_push, map_push, pow-le-pow_right, pow-suc, take-append-le, take_all, take_more}
 use native.Mathlib.Nat.{mod-lt}
 use Rattle.tensor_defs.specs.Prelude.{Each, mul, num_one, num_zero, Axis, x1, Operation, value, Index, axis_at, axis_place, coefficient, component_number, digit, index_of}
 use Rattle.number_laws.proofs.NumberLaws.{num_mul-zero, num_mul_assoc, num_mul_comm, num_zero-mul}
@@ -32,16 +32,13 @@ covers-push : (Z : ℕ → Type 0) (a b : ℕ) (ns : List ℕ) → Covers Z a ns
 covers-push Z a b [] h = (h.0, omega arith, h.1, (omega arith, λ k p q. absurd (omega (arith, p, q))))
 covers-push Z a b (n ∷ ns) h = let m = h.1 in (h.0, omega (arith, m), h.2, covers-push Z (n + 1) b ns h.3)
 
-covers-small : (Z : ℕ → Type 0) (a b : ℕ) (ns : List ℕ) → Covers Z a ns b → Each (λ n. n < b) ns
-covers-small Z a b [] h = tt
-covers-small Z a b (n ∷ ns) h = (h.1, covers-small Z (n + 1) b ns h.3)
+numbers-small : (Z : ℕ → Type 0) (a b n : ℕ) (ps : List Part) → b ≤ n → Covers Z a (numbers ps) b → Each (λ p. p.number < n) ps
+numbers-small Z a b n [] l h = tt
+numbers-small Z a b n (p ∷ ps) l h = let m = h.1 in (omega (arith, l, m), numbers-small Z (p.number + 1) b n ps l h.3)
 
-covers-few : (Z : ℕ → Type 0) (a b : ℕ) (ns : List ℕ) → Covers Z a ns b → length ns + a ≤ b
-covers-few Z a b [] h = let l = h.0 in omega (arith, l)
-covers-few Z a b (n ∷ ns) h =
-    let l = h.0 in
-    let few = covers-few Z (n + 1) b ns h.3 in
-    omega (arith, l, few)
+numbers-few : (Z : ℕ → Type 0) (a b : ℕ) (ps : List Part) → Covers Z a (numbers ps) b → length ps + a ≤ b
+numbers-few Z a b [] h = let l = h.0 in omega (arith, l)
+numbers-few Z a b (p ∷ ps) h = let l = h.0 in let few = numbers-few Z (p.number + 1) b ps h.3 in omega (arith, l, few)
 
 -- ---- one index more behind
 axis_same : (k : ℕ) → axis k ≡ axis_at k
@@ -195,36 +192,17 @@ reach-end g is r d ps long h e w =
     subst (λ js. AreParts g js ps) (ap (λ k. take k is) last ∙ take_all r is (omega (arith, long)))
     (reach-more g is (r - 1) d ps (omega (arith, long, h)) e w)
 
--- ---- how many parts there are, how large the numbers and the products are
-pub parts-few : (g : Operation) (is : Index) (ps : List Part) → AreParts g is ps → length ps ≤ 3 ^ length is
-parts-few g is ps parts =
-    let few = covers-few (IsNone g is) 0 (3 ^ length is) (numbers ps) parts.covers in
-    let same : length (numbers ps) ≡ length ps = length-map ps (λ (p : Part). p.number) in
-    omega (arith, few, same)
-
-numbered : (n : ℕ) (ps : List Part) → Each (λ k. k < n) (numbers ps) → Each (λ p. p.number < n) ps
-numbered n [] e = tt
-numbered n (p ∷ ps) e = (e.0, numbered n ps e.1)
-
-pub parts-small : (g : Operation) (is : Index) (n : ℕ) (ps : List Part) → 3 ^ length is ≤ n → AreParts g is ps →
-    Each (λ p. p.number < n) ps
-parts-small g is n ps h parts =
-    numbered n ps (each_map (λ k. k < 3 ^ length is) (λ k. k < n) (λ k l. omega (arith, l, h)) (numbers ps)
-    (covers-small (IsNone g is) 0 (3 ^ length is) (numbers ps) parts.covers))
-
-pub parts-within : (g : Operation) (is : Index) (n : ℕ) (ps : List Part) → 3 ^ length is ≤ n → AreParts g is ps →
-    Each (λ p. IsWithin n p.product) ps
-parts-within g is n ps h parts =
-    each_map (IsPart g is) (λ p. IsWithin n p.product) (λ p q. within-weaker (3 ^ length is) n p.product h q.within) ps parts.parts
-
--- before the last of at most six indices
+-- ---- how many parts there are before the last of at most six indices, how large the numbers and the products are
 pub bounded : (g : Operation) (is : Index) (r k : ℕ) (ps : List Part) → length is ≡ r → r ≤ 6 → k < r → AreParts g (take k is) ps →
     Each (λ p. p.number < 243) ps × Each (λ p. IsWithin 243 p.product) ps × (3 * length ps ≤ 3 ^ r)
 bounded g is r k ps long small h w =
+    let js = take k is in
     let size = length-take-le k is (omega (arith, long, h)) in
-    let power : 3 ^ length (take k is) ≤ 243 =
-    pow-le-pow_right {n = 3} (lit< tt) {i = length (take k is)} {j = 5} (omega (arith, size, h, small)) in
-    let few = parts-few g (take k is) ps w in
-    let next = pow-suc 3 (length (take k is)) in
-    let whole = pow-le-pow_right {n = 3} (lit< tt) {i = suc (length (take k is))} {j = r} (omega (arith, size, h)) in
-    (parts-small g (take k is) 243 ps power w, parts-within g (take k is) 243 ps power w, omega (arith, few, next, whole))
+    let power : 3 ^ length js ≤ 243 = pow-le-pow_right {n = 3} (lit< tt) {i = length js} {j = 5} (omega (arith, size, h, small)) in
+    let few = numbers-few (IsNone g js) 0 (3 ^ length js) ps w.covers in
+    let next = pow-suc 3 (length js) in
+    let whole = pow-le-pow_right {n = 3} (lit< tt) {i = suc (length js)} {j = r} (omega (arith, size, h)) in (
+      numbers-small (IsNone g js) 0 (3 ^ length js) 243 ps power w.covers,
+      each_map (IsPart g js) (λ p. IsWithin 243 p.product) (λ p q. within-weaker (3 ^ length js) 243 p.product power q.within) ps w.parts,
+      omega (arith, few, next, whole),
+    )

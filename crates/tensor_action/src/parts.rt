@@ -7,8 +7,7 @@ ghost use Rattle.op_matrix.specs.View.{axis};
 ghost use Rattle.root3_num.specs.Roots.{value_of_root};
 ghost use Rattle.sign_moves.specs.Signs.{signed};
 ghost use Rattle.tensor_action.specs.Factors.{IsWithin, entry_number, product_number};
-ghost use Rattle.tensor_action.specs.Fronts.{IsFront};
-ghost use Rattle.tensor_action.specs.Reaching.{AreParts, Extends};
+ghost use Rattle.tensor_action.specs.Reaching.{AreParts, Extends, IsFront};
 
 use crate::products::{Product, number_of, one, with_entry};
 use op_matrix::{Entry, Op};
@@ -161,7 +160,7 @@ pub struct Parts<R: Rank> {
 impl<R: Rank> Model for Parts<R> {
     ghost use Rattle.std.specs.Prelude.{◌≤◌, List, vec_capacity};
     ghost use Rattle.tensor_action.specs.declared.parts.Part.{Part};
-    ghost use Rattle.tensor_action.specs.Fronts.{IsFront};
+    ghost use Rattle.tensor_action.specs.Reaching.{IsFront};
 
     ghost Value = { List Part };
 

@@ -1,7 +1,6 @@
 use Rattle.std.proofs.Common.{◌-◌, ◌/◌, ◌∙◌, take, ap, sym, subst, arith}
 use Rattle.tensor_defs.specs.Tensor.{index_of}
-use Rattle.tensor_action.specs.Fronts.{IsFront}
-use Rattle.tensor_action.specs.Reaching.{AreParts}
+use Rattle.tensor_action.specs.Reaching.{AreParts, IsFront}
 use Rattle.tensor_action.proofs.Reach.{front-index}
 use Rattle.tensor_action.proofs.parts.fill_front.Goals as goal
 
