@@ -2,49 +2,17 @@
 ghost use Rattle.std.specs.Prelude.{◌≡◌, ◌+◌, ◌++◌, ◌≤◌, ◌<◌, length};
 ghost use Rattle.tensor_defs.specs.Tensor.{index_of};
 ghost use Rattle.text_defs.specs.AnswerTexts.{component_name};
-ghost use Rattle.text_defs.specs.NumberTexts.{factor_text, is_negative, is_one, is_zero, term_text, without_sign};
+ghost use Rattle.text_defs.specs.NumberTexts.{factor_text, term_text};
 ghost use Rattle.smallvec.specs.SmallVec.{HasRoomFor, small_vec_len};
 ghost use Rattle.reduced_form.specs.Forms.{free_at};
 
-use exact_frac::{Frac, append};
+use exact_frac::append;
 use reduced_form::{Form, name_bytes};
-use root3_num::Root3;
+use root3_num::{Root3, is_negative_part, is_one_part, is_zero_part, size_of_part};
 use smallvec::SmallVec;
 use state_marks::RootTerm;
 use std::alloc::Global;
 use tensor_rank::Rank;
-
-/// Whether a fraction is 0.
-fn is_zero_part(part: &Frac) -> bool
-    ensures { result ≡ is_zero part.now }
-{
-    part.num() == 0
-}
-
-/// Whether a fraction is 1.
-fn is_one_part(part: &Frac) -> bool
-    ensures { result ≡ is_one part.now }
-{
-    part.den() == 1 && part.num() == 1
-}
-
-/// Whether a fraction is negative.
-fn is_negative_part(part: &Frac) -> bool
-    ensures { result ≡ is_negative part.now }
-{
-    part.num() < 0
-}
-
-/// A fraction without its sign.
-fn size_of_part(part: &Frac) -> Frac
-    ensures { result ≡ without_sign part.now }
-{
-    if is_negative_part(part) {
-        part.neg()
-    } else {
-        *part
-    }
-}
 
 /// Appends the factor of a name: nothing at 1, - at -1, else its text and *, in brackets where neither part is 0.
 fn push_factor(text: &mut SmallVec<u8, 128>, alloc: Global, factor: &Root3)

@@ -9,22 +9,20 @@ use Rattle.tensor_laws.proofs.ComponentNumbers.{length-index_of}
 use Rattle.tensor_action.specs.Acting.{ActGrows, IsCarriedList, SumGrows, factor, tensor_of}
 use Rattle.tensor_action.proofs.CarryLaws.{sum_is_act}
 use Rattle.state_marks.specs.Alike.{AreAlike}
+use Rattle.state_marks.proofs.AlikeLaws.{same_factors}
 use Rattle.given_tensors.specs.Carried.{AreCarried, IsListAt, Serves}
 use Rattle.given_tensors.specs.declared.carried.Carried.{Carried}
 
 module _ (m : Marks) (r : ℕ) (g h : Operation) (alike : AreAlike m r g h) where
-  factors : (i : Index) → length i ≡ r → factor m g i ≡ factor m h i
-  factors i l = λ n j. alike i l j n
-
   same_act : (t : Tensor) (i : Index) → length i ≡ r → act m g t i ≡ act m h t i
   same_act t i l =
-      sym (sum_is_act m g t i) ∙ (λ n. sum_of (λ j. mul (factors i l n j) (t j)) (indices (length i))) ∙ sum_is_act m h t i
+      sym (sum_is_act m g t i) ∙ (λ n. sum_of (λ j. mul (alike i l j n) (t j)) (indices (length i))) ∙ sum_is_act m h t i
 
   pub alike_list : (n : ℕ) (ts vs : List Root3) → IsCarriedList m g r n ts vs → IsCarriedList m h r n ts vs
   alike_list n ts vs c = record {
     len = c.len;
     each = λ k l. c.each k l ∙ same_act (tensor_of ts) (index_of r k) (length-index_of r k);
-    calm = λ x. c.calm (x.0, x.1, subst (λ f. SumGrows r f (tensor_of ts)) (sym (factors x.0 x.1)) x.2);
+    calm = λ x. c.calm (x.0, x.1, subst (λ f. SumGrows r f (tensor_of ts)) (sym (same_factors m r g h alike x.0 x.1)) x.2);
   }
 
 module _ (m : Marks) (r n : ℕ) (cs : List Carried) where

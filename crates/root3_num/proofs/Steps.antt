@@ -1,11 +1,12 @@
 -- When a sum or a product of numbers a + b√3 is refused.
+--   zero_held, zero_has, zero_small    the number 0
 --   held-root    a pair of fractions that are held, as a number
 --   AStepReaches    one of the steps of a product reaches the limit
---   err-sum    a refusal, whatever its error
+--   sum-refused, product-refused    a refusal, whatever its error
 --   roots-same    whether two pairs are one number
-use Rattle.list_laws.proofs.Kit.{◌≡◌, ◌⊎◌, inl, inr, refl, sym, ◌∙◌, subst, lit<, Result, Ok, Err, false≢true, IsErr}
+use Rattle.list_laws.proofs.Kit.{◌≡◌, ◌⊎◌, inl, inr, refl, ap, sym, ◌∙◌, subst, lit<, Result, Ok, Err, false≢true, IsErr}
 use lib.IntN.{pos}
-use Rattle.tensor_defs.specs.Number.{Number, Fraction, Root3, IsFraction, HasParts, ReachesLimit, PartReaches, ProductReaches, value_of, add, mul, whole, root_3, num_zero, IsLowest}
+use Rattle.tensor_defs.specs.Number.{Number, Fraction, Root3, IsFraction, HasParts, ReachesLimit, PartReaches, ProductReaches, value_of, add, mul, whole, root_3, num_zero}
 use Rattle.number_laws.proofs.Limit.{one_fraction}
 use Rattle.exact_frac.specs.Held.{IsHeld, IsHeldAs, zero_over_one}
 use Rattle.exact_frac.proofs.Divisors.{gcd-one}
@@ -22,6 +23,25 @@ as-fraction x f h = record { same = h.same; terms = h.held.terms }
 
 pub own-fraction : (f : Fraction) → IsHeld f → IsFraction (value_of f) f
 own-fraction f h = record { same = refl; terms = h.terms }
+
+-- ---- 0
+pub zero_held : IsHeldAs num_zero zero_over_one
+zero_held = record {
+  same = sym (over-zero 1);
+  held = record { terms = record { positive = lit< tt; lowest = gcd-one 0 }; small_num = lit< tt; small_den = lit< tt };
+}
+
+pub zero_has : HasParts num_zero num_zero num_zero
+zero_has = record {
+  fraction_a = zero_over_one;
+  fraction_b = zero_over_one;
+  is_a = as-fraction num_zero zero_over_one zero_held;
+  is_b = as-fraction num_zero zero_over_one zero_held;
+  same = sym zero-parts;
+}
+
+pub zero_small : (x : Number) → x ≡ num_zero → ReachesLimit x → ⊥
+zero_small x e = held-not_large x zero_over_one (record { same = e ∙ zero_held.same; held = zero_held.held })
 
 -- a pair of fractions that are held, as a number
 pub held-root : (x a b : Number) (f g : Fraction) → IsHeldAs a f → IsHeldAs b g → x ≡ add a (mul b root_3) →
@@ -53,11 +73,6 @@ sums-parts r s h k =
       same = sum-parts (value_of r.a) (value_of r.b) (value_of s.a) (value_of s.b) root_3;
     }
 
-pub sum-reaches : (r s : Root3) → AreHeld r → AreHeld s →
-    ReachesLimit (add (value_of r.a) (value_of s.a)) ⊎ ReachesLimit (add (value_of r.b) (value_of s.b)) →
-    PartReaches (add (value_of_root r) (value_of_root s))
-sum-reaches r s h k l = (add (value_of r.a) (value_of s.a), add (value_of r.b) (value_of s.b), sums-parts r s h k, l)
-
 pub sum-is : (r s : Root3) (f g : Fraction) → AreHeld r → AreHeld s → IsHeldAs (add (value_of r.a) (value_of s.a)) f →
     IsHeldAs (add (value_of r.b) (value_of s.b)) g →
     IsHeldRoot (add (value_of_root r) (value_of_root s)) (record { a = f; b = g })
@@ -78,11 +93,6 @@ AStepReaches a b c d =
     ReachesLimit (mul a c) ⊎ ReachesLimit (mul b d) ⊎ ReachesLimit (mul (whole (pos 3)) (mul b d))
     ⊎ ReachesLimit (add (mul a c) (mul (whole (pos 3)) (mul b d)))
     ⊎ ReachesLimit (mul a d) ⊎ ReachesLimit (mul b c) ⊎ ReachesLimit (add (mul a d) (mul b c))
-
-pub product-reaches : (r s : Root3) → AreHeld r → AreHeld s →
-    AStepReaches (value_of r.a) (value_of r.b) (value_of s.a) (value_of s.b) → ProductReaches (value_of_root r) (value_of_root s)
-product-reaches r s h k l =
-    (value_of r.a, value_of r.b, value_of s.a, value_of s.b, own-parts r h, own-parts s k, l)
 
 pub product-calm : (r s : Root3) → AreHeld r → AreHeld s →
     (AStepReaches (value_of r.a) (value_of r.b) (value_of s.a) (value_of s.b) → ⊥) →
@@ -115,42 +125,34 @@ product-is r s h k ac bd t a ad bc b u1 u2 u3 u4 u5 u6 u7 = (
   ]),
 )
 
--- a refusal, whatever its error
-pub err-sum : (x : Number) (r : Result Root3 TooLarge) → IsErr r → PartReaches x → IsExactSum x r
-err-sum x (Ok f) h p = absurd (false≢true h)
-err-sum x (Err e) h p = p
+-- a refusal, whatever its error, of numbers whose parts are r and s
+module _ (r s v w : Root3) (p : r ≡ v) (q : s ≡ w) (h : AreHeld r) (k : AreHeld s) where
+  pub sum-refused : (x : Result Root3 TooLarge) → IsErr x →
+      ReachesLimit (add (value_of r.a) (value_of s.a)) ⊎ ReachesLimit (add (value_of r.b) (value_of s.b)) →
+      IsExactSum (add (value_of_root v) (value_of_root w)) x
+  sum-refused (Ok f) e l = absurd (false≢true e)
+  sum-refused (Err f) e l = subst PartReaches (λ i. add (value_of_root (p i)) (value_of_root (q i)))
+      (add (value_of r.a) (value_of s.a), add (value_of r.b) (value_of s.b), sums-parts r s h k, l)
 
-pub err-product : (x y : Number) (r : Result Root3 TooLarge) → IsErr r → ProductReaches x y → IsExactProduct x y r
-err-product x y (Ok f) h p = absurd (false≢true h)
-err-product x y (Err e) h p = p
+  pub product-refused : (x : Result Root3 TooLarge) → IsErr x →
+      AStepReaches (value_of r.a) (value_of r.b) (value_of s.a) (value_of s.b) →
+      IsExactProduct (value_of_root v) (value_of_root w) x
+  product-refused (Ok f) e l = absurd (false≢true e)
+  product-refused (Err f) e l =
+      subst (λ n. ProductReaches n (value_of_root w)) (ap value_of_root p) (subst (λ n. ProductReaches (value_of_root r) n) (ap value_of_root q)
+      (value_of r.a, value_of r.b, value_of s.a, value_of s.b, own-parts r h, own-parts s k, l))
 
 -- whether two pairs are one number
 pub roots-same : (r s : Root3) → AreHeld r → AreHeld s → value_of_root r ≡ value_of_root s → (r.a ≡ s.a) × (r.b ≡ s.b)
 roots-same r s h k e =
-    let u = own-parts r h in
-    let p = one-parts (value_of_root r) (value_of r.a) (value_of r.b) (value_of s.a) (value_of s.b) u (record {
-      fraction_a = s.a;
-      fraction_b = s.b;
-      is_a = own-fraction s.a k.held_a;
-      is_b = own-fraction s.b k.held_b;
-      same = e;
-    }) in
+    let p = one-parts (value_of_root r) (value_of r.a) (value_of r.b) (value_of s.a) (value_of s.b) (own-parts r h)
+    (subst (λ x. HasParts x (value_of s.a) (value_of s.b)) (sym e) (own-parts s k)) in
     (one_fraction r.a s.a h.held_a.terms k.held_a.terms p.0, one_fraction r.b s.b h.held_b.terms k.held_b.terms p.1)
-
-zero_lowest : IsLowest zero_over_one
-zero_lowest = record { positive = lit< tt; lowest = gcd-one 0 }
 
 pub root-zero : (r : Root3) → AreHeld r → value_of_root r ≡ num_zero → (value_of r.a ≡ num_zero) × (value_of r.b ≡ num_zero)
 root-zero r h e =
-    let z : num_zero ≡ value_of zero_over_one = sym (over-zero 1) in
-    let u = own-parts r h in
-    one-parts (value_of_root r) (value_of r.a) (value_of r.b) num_zero num_zero u (record {
-      fraction_a = zero_over_one;
-      fraction_b = zero_over_one;
-      is_a = record { same = z; terms = zero_lowest };
-      is_b = record { same = z; terms = zero_lowest };
-      same = e ∙ sym zero-parts;
-    })
+    one-parts (value_of_root r) (value_of r.a) (value_of r.b) num_zero num_zero (own-parts r h)
+    (subst (λ x. HasParts x num_zero num_zero) (sym e) zero_has)
 
 pub zero-root : (r : Root3) → value_of r.a ≡ num_zero → value_of r.b ≡ num_zero → value_of_root r ≡ num_zero
 zero-root r e f = (λ i. add (e i) (mul (f i) root_3)) ∙ zero-parts

@@ -7,3 +7,4 @@ mod tests;
 mod text;
 
 pub use root::{Root3, TooLarge};
+pub use text::{is_negative_part, is_one_part, is_zero_part, size_of_part};

@@ -7,25 +7,29 @@ use exact_frac::{Frac, append};
 use smallvec::SmallVec;
 use std::alloc::Global;
 
-fn is_zero_part(fraction: &Frac) -> bool
+/// Whether a fraction is 0.
+pub fn is_zero_part(fraction: &Frac) -> bool
     ensures { result ≡ is_zero fraction.now }
 {
     fraction.num() == 0
 }
 
-fn is_one_part(fraction: &Frac) -> bool
+/// Whether a fraction is 1.
+pub fn is_one_part(fraction: &Frac) -> bool
     ensures { result ≡ is_one fraction.now }
 {
     fraction.den() == 1 && fraction.num() == 1
 }
 
-fn is_negative_part(fraction: &Frac) -> bool
+/// Whether a fraction is negative.
+pub fn is_negative_part(fraction: &Frac) -> bool
     ensures { result ≡ is_negative fraction.now }
 {
     fraction.num() < 0
 }
 
-fn size_of_part(fraction: &Frac) -> Frac
+/// A fraction without its sign.
+pub fn size_of_part(fraction: &Frac) -> Frac
     ensures { result ≡ without_sign fraction.now }
 {
     if is_negative_part(fraction) {

@@ -1,6 +1,6 @@
 -- Operations that act the same.
 --   value_same, value_opposite    matrices at the same place, and at opposite ones
---   power-more, alike    a product of one sign more; the factors of two operations
+--   power-more, alike, same_factors    a product of one sign more; the factors of two operations
 --   rows_alike      they have the same rows
 use Rattle.std.proofs.Common.{◌≡◌, ℕ, suc, ◌+◌, ◌-◌, ◌/◌, ◌%◌, ◌<◌, Bool, true, false, [], ◌∷◌, length, refl, ap, sym, ◌∙◌, subst, arith}
 use Rattle.std.specs.Prelude.{◌≢◌, nat_eq}
@@ -126,13 +126,13 @@ alike m r g h s p q e a b c i l j =
     ap (λ y. mul y x) a ∙ signed-product p Plus num_one x ∙ ap (λ w. signed w (mul num_one x)) (times_plus p ∙ same)
     ∙ sym ((λ n. mul (b n) (coefficient-signed g h s e i j n)) ∙ signed-product q u num_one x)
 
+pub same_factors : (m : Marks) (r : ℕ) (g h : Operation) → AreAlike m r g h → (i : Index) → length i ≡ r → factor m g i ≡ factor m h i
+same_factors m r g h same i l = λ n j. same i l j n
+
 -- ---- rows
 module _ (m : Marks) (r : ℕ) (a : Table) (g h : Operation) (same : AreAlike m r g h) (s : StateValue) (told : AreStateRows m g r a s) where
-  factors : (i : Index) → length i ≡ r → factor m g i ≡ factor m h i
-  factors i l = λ n j. same i l j n
-
   rows_same : (i : Index) → length i ≡ r → state_row m g a r i ≡ state_row m h a r i
-  rows_same i l = λ n k. sum_of (λ j. mul (factors i l n j) (factor_at (a.terms j) k)) (indices r)
+  rows_same i l = λ n k. sum_of (λ j. mul (same i l j n) (factor_at (a.terms j) k)) (indices r)
 
   row : (i : Index) → length i ≡ r → IsStateRow m h a r i (row_of s i)
   row i l = record {
@@ -143,7 +143,7 @@ module _ (m : Marks) (r : ℕ) (a : Table) (g h : Operation) (same : AreAlike m 
   }
 
   calm : (i : Index) → length i ≡ r → StateRowGrows m h a r i → ⊥
-  calm i l grows = told.calm i l (grows.0, grows.1, subst (λ f. SumGrows r f (column a grows.0)) (sym (factors i l)) grows.2)
+  calm i l grows = told.calm i l (grows.0, grows.1, subst (λ f. SumGrows r f (column a grows.0)) (sym (same_factors m r g h same i l)) grows.2)
 
   marked : (i : Index) → length i ≡ r → (b : Bool) → TellsRow m g a r i b → TellsRow m h a r i b
   marked i l true (k, b, other) = (k, b, λ e. other ((λ n. rows_same i l n k) ∙ e))

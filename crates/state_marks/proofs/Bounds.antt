@@ -20,14 +20,14 @@ use Rattle.exact_frac.proofs.Signs.{size-neg}
 use Rattle.exact_frac.proofs.Wide.{size-add}
 use Rattle.root3_num.proofs.Lowering.{lowest-over}
 use Rattle.root3_num.proofs.RootParts.{both-at, one-parts}
+use Rattle.root3_num.proofs.Steps.{zero_has, zero_small}
 use Rattle.op_matrix.specs.Table.{nth_operation, operation_at}
 use Rattle.op_matrix.proofs.Determinants.{unit_determinant}
 use Rattle.tensor_action.proofs.DeterminantLaws.{one_down}
 use Rattle.tensor_action.proofs.FactorLaws.{small-calm}
 use Rattle.tensor_action.proofs.IndexPlaces.{length-indices}
-use Rattle.tensor_action.proofs.SumLaws.{zero_has, zero_small}
+use Rattle.tensor_action.proofs.SumLaws.{product_zero_calm}
 use Rattle.answer_laws.proofs.Forms.{indices_of_rank}
-use Rattle.state_marks.proofs.Parts.{nothing_calm}
 
 pub record IsBounded (d b : ℕ) (x : Number) : Type 0 where
   pub p : ℤ
@@ -260,7 +260,7 @@ module _ (d b : ℕ) (low : d < limit) (small : b < limit) (x : Number) (h : IsB
 
   pub unit-calm : (y : Number) → IsUnitNumber y → ProductReaches x y → ⊥
   unit-calm y unit reaches = elim unit as (λ _. ⊥) [
-    | inl z ↦ nothing_calm x y z reaches
+    | inl z ↦ product_zero_calm x y z reaches
     | inr (inl one) ↦
         product-calm d b low small x h y num_one
         (subst (λ u. HasParts y u num_zero) one (whole_has (pos 1) y refl one))

@@ -8,7 +8,7 @@ use Rattle.std.proofs.lemmas.List.{get_or-set_same, get_or-set_other, length-set
 use Rattle.std.proofs.lemmas.Bool.Decides.{nat_tests}
 use Rattle.std.specs.Prelude.{◌==◌, if◌then◌else◌}
 use lib.IntN.{ℤ, pos, negsuc}
-use Rattle.tensor_defs.specs.Prelude.{IsRising, Number, Fraction, Root3, over, add, mul, neg, whole, num_zero, num_one, root_3, value_of, HasParts}
+use Rattle.tensor_defs.specs.Prelude.{IsRising, Number, Fraction, Root3, over, add, mul, neg, whole, num_zero, num_one, root_3, value_of}
 use Rattle.tensor_defs.specs.Prelude.{PartReaches, ProductReaches, places_rise}
 use Rattle.text_defs.specs.NumberTexts.{int_is, is_one}
 use Rattle.number_laws.proofs.NumberLaws.{num_add-zero, num_mul-zero, num_zero-add, num_zero-mul, num_mul-one, num_mul_comm, num_neg-neg}
@@ -17,12 +17,11 @@ use Rattle.exact_frac.proofs.Overs.{over-zero}
 use Rattle.root3_num.specs.Answers.{IsExactProduct}
 use Rattle.root3_num.specs.Roots.{AreHeld, IsHeldRoot, value_of_root}
 use Rattle.root3_num.specs.declared.root.TooLarge.{TooLarge}
-use Rattle.root3_num.proofs.RootParts.{one-parts}
-use Rattle.root3_num.proofs.Steps.{product-is}
+use Rattle.root3_num.proofs.Steps.{product-is, zero_held}
 use Rattle.reduced_form.specs.declared.forms.Term.{Term}
 use Rattle.reduced_form.specs.Forms.{term_of}
 use Rattle.tensor_action.specs.Acting.{AddsPart, zero_root}
-use Rattle.tensor_action.proofs.SumLaws.{held_calm, root-value, zero_has, zero_held, zero_small}
+use Rattle.tensor_action.proofs.SumLaws.{held_calm, product_zero_calm, root-value}
 use Rattle.tensor_laws.proofs.Unique.{fraction_one}
 use Rattle.state_marks.specs.Sums.{AddsRow, AddsTerm, RowGrows, factor_in, form_term_at, root_at, sum_at}
 use Rattle.state_marks.proofs.Factors.{factor-absent, factor-at, factor-other, factor-own, rising-before, same_or_other}
@@ -99,27 +98,6 @@ pub times-fraction : (x : Number) (f : Fraction) (s : Root3) (r : Result Root3 T
 times-fraction x f s r e h = subst (λ y. IsExactProduct x y r) (ap value_of_root e ∙ rational-root f) h
 
 -- ---- parts
--- a product with 0 reaches the limit nowhere
-pub nothing_calm : (x y : Number) → y ≡ num_zero → ProductReaches x y → ⊥
-nothing_calm x y z p =
-    let a = p.0 in
-    let b = p.1 in
-    let c = p.2 in
-    let d = p.3 in
-    let e = one-parts num_zero c d num_zero num_zero (subst (λ w. HasParts w c d) z p.5) zero_has in
-    let left : (w : Number) → mul w c ≡ num_zero = λ w. ap (mul w) e.0 ∙ num_mul-zero w in
-    let right : (w : Number) → mul w d ≡ num_zero = λ w. ap (mul w) e.1 ∙ num_mul-zero w in
-    let three : mul (whole (pos 3)) (mul b d) ≡ num_zero = ap (mul (whole (pos 3))) (right b) ∙ num_mul-zero (whole (pos 3)) in
-    elim p.6 as (λ _. ⊥) [
-      | inl l ↦ zero_small (mul a c) (left a) l
-      | inr (inl l) ↦ zero_small (mul b d) (right b) l
-      | inr (inr (inl l)) ↦ zero_small (mul (whole (pos 3)) (mul b d)) three l
-      | inr (inr (inr (inl l))) ↦ zero_small _ ((λ n. add (left a n) (three n)) ∙ num_add-zero num_zero) l
-      | inr (inr (inr (inr (inl l)))) ↦ zero_small (mul a d) (right a) l
-      | inr (inr (inr (inr (inr (inl l))))) ↦ zero_small (mul b c) (left b) l
-      | inr (inr (inr (inr (inr (inr l))))) ↦ zero_small _ ((λ n. add (right a n) (left b n)) ∙ num_add-zero num_zero) l
-    ]
-
 pub adds-first : (s x y : Number) (part : Root3) → s ≡ num_zero → IsExactProduct x y (Ok part) → AddsPart s x y (Ok part)
 adds-first s x y part z h =
     let e : add s (mul x y) ≡ mul x y = ap (λ w. add w (mul x y)) z ∙ num_zero-add (mul x y) in
@@ -128,7 +106,7 @@ adds-first s x y part z h =
 adds-nothing : (s x y : Number) (v : Root3) → (PartReaches s → ⊥) → y ≡ num_zero → value_of_root v ≡ s → AddsPart s x y (Ok v)
 adds-nothing s x y v calm z e =
     let same : add s (mul x y) ≡ s = ap (add s) (ap (mul x) z ∙ num_mul-zero x) ∙ num_add-zero s in
-    (e ∙ sym same, nothing_calm x y z, λ p. calm (subst PartReaches same p))
+    (e ∙ sym same, product_zero_calm x y z, λ p. calm (subst PartReaches same p))
 
 -- ---- the terms of a row, one after the other
 pub record IsAdding (old : List Root3) (x : Number) (ts : List Term) (n : ℕ) (cur : List Root3) : Type 0 where

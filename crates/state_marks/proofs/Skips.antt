@@ -1,6 +1,6 @@
 -- The parts of a component in a state.
 --   IsAddingParts   the sums after the first components from which one takes
---   row_factor      the row of a component of a form is that of its table
+--   row_told        the row of a component of a form is that of its table
 use Rattle.std.proofs.Common.{◌≡◌, ℕ, ◌+◌, ◌<◌, ◌≤◌, ◌^◌, ◌⊎◌, List, length, drop, refl, ap, sym, ◌∙◌, subst, Ok}
 use Rattle.tensor_defs.specs.Prelude.{Number, Root3, add, mul, num_one, PartReaches, ProductReaches, Operation, StateRowGrows, Table, Index, Marks, index_of}
 use Rattle.tensor_defs.specs.Prelude.{sign}
@@ -76,6 +76,7 @@ module _ (m : Marks) (g : Operation) (r : ℕ) (a : Table) (i : Index) (rank : l
       }
 
 -- the row of a component of a form is that of its table
-pub row_factor : (r : ℕ) (f : FormValue) (n k : ℕ) → n < 3 ^ r →
-    factor_in (row_at f.rows n) k ≡ column (form_table r f) k (index_of r n)
-row_factor r f n k h = ap (λ c. factor_in (row_at f.rows c) k) (sym (number-index_of r n h))
+pub row_told : (r : ℕ) (f : FormValue) (ts : List Term) (c n k : ℕ) → ts ≡ row_at f.rows c → c ≡ n → n < 3 ^ r →
+    factor_in ts k ≡ column (form_table r f) k (index_of r n)
+row_told r f ts c n k e same h =
+    ap (λ us. factor_in us k) e ∙ ap (λ d. factor_in (row_at f.rows d) k) (same ∙ sym (number-index_of r n h))

@@ -5,7 +5,6 @@ ghost use Rattle.tensor_defs.specs.Number.{neg, num_one, value_of};
 ghost use Rattle.tensor_defs.specs.Table.{places_rise};
 ghost use Rattle.tensor_defs.specs.StateRows.{StateRowGrows};
 ghost use Rattle.tensor_defs.specs.Tensor.{index_of};
-ghost use Rattle.text_defs.specs.NumberTexts.{is_one};
 ghost use Rattle.root3_num.specs.Answers.{IsExactProduct};
 ghost use Rattle.root3_num.specs.Roots.{value_of_root};
 ghost use Rattle.reduced_form.specs.Forms.{IsWellFormed, form_table, term_of};
@@ -20,22 +19,15 @@ use crate::faults::DifferFault;
 use exact_frac::Frac;
 use op_matrix::Op;
 use reduced_form::{Form, Term};
-use root3_num::{Root3, TooLarge};
+use root3_num::{Root3, TooLarge, is_one_part};
 use tensor_action::{Part, Parts};
 use tensor_rank::{Comp, Flags, Rank, Sign, sign_of};
-
-/// Whether a fraction is 1.
-fn is_one(number: &Frac) -> bool
-    ensures { result ≡ is_one number.now }
-{
-    number.den() == 1 && number.num() == 1
-}
 
 /// Whether a fraction is -1.
 fn is_minus_one(number: &Frac) -> bool
     ensures { IsTrue result → value_of number.now ≡ neg num_one }
 {
-    is_one(&number.neg())
+    is_one_part(&number.neg())
 }
 
 /// A factor times a fraction, which mostly is 1 or -1.
@@ -44,7 +36,7 @@ fn product(factor: &Root3, number: &Frac) -> Result<Root3, TooLarge>
 {
     factor.in_lowest_terms();
     number.in_lowest_terms();
-    if is_one(number) {
+    if is_one_part(number) {
         return Ok(*factor);
     }
     if is_minus_one(number) {

@@ -45,13 +45,6 @@ pub record IsCarrying (m : Marks) (g : Operation) (r : ℕ) (t : Tensor) (n : �
   pub calm : (c : ℕ) → c < n → SumGrows r (factor m g (index_of r c)) t → ⊥
 
 module _ (m : Marks) (g : Operation) (r : ℕ) (t : Tensor) where
-  pub carrying-start : (vs : List Root3) → vs ≡ [] → IsCarrying m g r t 0 vs
-  carrying-start vs e = record {
-    len = ap length e;
-    each = λ c h. absurd (omega arith);
-    calm = λ c h. absurd (omega arith);
-  }
-
   pub carrying-more : (n : ℕ) (vs ws : List Root3) (v : Root3) → IsCarrying m g r t n vs →
       CarriesTo m g r t (index_of r n) (Ok v) → ws ≡ vs ++ v ∷ [] → IsCarrying m g r t (n + 1) ws
   carrying-more n vs ws v s a e =

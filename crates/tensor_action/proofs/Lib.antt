@@ -1,7 +1,7 @@
 pub mod FactorLaws
-mod Between
 pub mod IndexPlaces
 pub mod SumLaws
 pub mod Reach
+mod Between
 pub mod Walks
 pub mod CarryLaws

@@ -2,43 +2,23 @@
 --   root-value, held_calm    0 and numbers that are held
 --   adds-sum        a sum with one more product
 --   IsSummed, summed-start, summed-more, summed-grows, summed-end, summed-calm    the sum of the first n products
-use Rattle.list_laws.proofs.Kit.{◌≡◌, ℕ, ◌+◌, ◌<◌, ◌≤◌, ◌^◌, ◌⊎◌, inl, inr, take, ap, sym, ◌∙◌, subst, arith, lit<, Result, Ok, Err, cases_lt, take_all}
+use Rattle.list_laws.proofs.Kit.{◌≡◌, ℕ, ◌+◌, ◌<◌, ◌≤◌, ◌^◌, ◌⊎◌, inl, inr, take, ap, sym, ◌∙◌, subst, arith, Result, Ok, Err, cases_lt, take_all}
 use lib.IntN.{pos}
-use Rattle.tensor_defs.specs.Prelude.{Number, Root3, add, mul, whole, num_zero, root_3, HasParts, ReachesLimit, PartReaches, ProductReaches, sum_of, Index}
+use Rattle.tensor_defs.specs.Prelude.{Number, Root3, add, mul, whole, num_zero, root_3, HasParts, PartReaches, ProductReaches, sum_of, Index}
 use Rattle.tensor_defs.specs.Prelude.{Tensor, component_number, index_of, indices}
 use Rattle.number_laws.proofs.NumberLaws.{num_add-zero, num_mul-zero, num_zero-mul}
 use Rattle.tensor_laws.proofs.ComponentNumbers.{length-index_of}
-use Rattle.exact_frac.specs.Held.{IsHeldAs, zero_over_one}
-use Rattle.exact_frac.proofs.Divisors.{gcd-one}
-use Rattle.exact_frac.proofs.Overs.{over-zero}
 use Rattle.exact_frac.proofs.Parts.{held-not_large}
 use Rattle.root3_num.specs.Answers.{IsExactSum}
 use Rattle.root3_num.specs.Roots.{value_of_root, IsHeldRoot}
 use Rattle.root3_num.specs.declared.root.TooLarge.{TooLarge}
-use Rattle.root3_num.proofs.RootParts.{one-parts, zero-parts}
+use Rattle.root3_num.proofs.RootParts.{one-parts}
+use Rattle.root3_num.proofs.Steps.{AStepReaches, zero_has, zero_small}
 use Rattle.tensor_rank.specs.IndexLaws.{component_below_at, index_number_at}
 use Rattle.tensor_action.specs.Acting.{AddsPart, SumGrows}
 use Rattle.tensor_action.proofs.IndexPlaces.{length-indices, sum_more}
 
 -- ---- 0 and numbers that are held
-pub zero_held : IsHeldAs num_zero zero_over_one
-zero_held = record {
-  same = sym (over-zero 1);
-  held = record { terms = record { positive = lit< tt; lowest = gcd-one 0 }; small_num = lit< tt; small_den = lit< tt };
-}
-
-pub zero_has : HasParts num_zero num_zero num_zero
-zero_has = record {
-  fraction_a = zero_over_one;
-  fraction_b = zero_over_one;
-  is_a = record { same = zero_held.same; terms = zero_held.held.terms };
-  is_b = record { same = zero_held.same; terms = zero_held.held.terms };
-  same = sym zero-parts;
-}
-
-pub zero_small : (x : Number) → x ≡ num_zero → ReachesLimit x → ⊥
-zero_small x e r = held-not_large x zero_over_one (record { same = e ∙ zero_held.same; held = zero_held.held }) r
-
 pub root-value : (x : Number) (v : Root3) → IsHeldRoot x v → value_of_root v ≡ x
 root-value x v h = sym (h.is_root.same ∙ (λ n. add (h.is_root.is_a.same n) (mul (h.is_root.is_b.same n) root_3)))
 
@@ -58,25 +38,31 @@ zero_part_calm x z p =
     elim p.3 as (λ _. ⊥) [ inl l ↦ zero_small p.0 e.0 l | inr l ↦ zero_small p.1 e.1 l ]
 
 -- a product with 0 reaches the limit nowhere
+steps_calm : (a b c d : Number) → mul a c ≡ num_zero → mul b d ≡ num_zero → mul a d ≡ num_zero → mul b c ≡ num_zero →
+    AStepReaches a b c d → ⊥
+steps_calm a b c d ac bd ad bc l =
+    let three : mul (whole (pos 3)) (mul b d) ≡ num_zero = ap (mul (whole (pos 3))) bd ∙ num_mul-zero (whole (pos 3)) in
+    elim l as (λ _. ⊥) [
+      | inl k ↦ zero_small (mul a c) ac k
+      | inr (inl k) ↦ zero_small (mul b d) bd k
+      | inr (inr (inl k)) ↦ zero_small (mul (whole (pos 3)) (mul b d)) three k
+      | inr (inr (inr (inl k))) ↦ zero_small _ ((λ n. add (ac n) (three n)) ∙ num_add-zero num_zero) k
+      | inr (inr (inr (inr (inl k)))) ↦ zero_small (mul a d) ad k
+      | inr (inr (inr (inr (inr (inl k))))) ↦ zero_small (mul b c) bc k
+      | inr (inr (inr (inr (inr (inr k))))) ↦ zero_small _ ((λ n. add (ad n) (bc n)) ∙ num_add-zero num_zero) k
+    ]
+
 pub zero_product_calm : (x y : Number) → x ≡ num_zero → ProductReaches x y → ⊥
 zero_product_calm x y z p =
-    let a = p.0 in
-    let b = p.1 in
-    let c = p.2 in
-    let d = p.3 in
-    let e = one-parts num_zero a b num_zero num_zero (subst (λ y. HasParts y a b) z p.4) zero_has in
-    let left : (w : Number) → mul a w ≡ num_zero = λ w. ap (λ u. mul u w) e.0 ∙ num_zero-mul w in
-    let right : (w : Number) → mul b w ≡ num_zero = λ w. ap (λ u. mul u w) e.1 ∙ num_zero-mul w in
-    let three : mul (whole (pos 3)) (mul b d) ≡ num_zero = ap (mul (whole (pos 3))) (right d) ∙ num_mul-zero (whole (pos 3)) in
-    elim p.6 as (λ _. ⊥) [
-      | inl l ↦ zero_small (mul a c) (left c) l
-      | inr (inl l) ↦ zero_small (mul b d) (right d) l
-      | inr (inr (inl l)) ↦ zero_small (mul (whole (pos 3)) (mul b d)) three l
-      | inr (inr (inr (inl l))) ↦ zero_small _ ((λ n. add (left c n) (three n)) ∙ num_add-zero num_zero) l
-      | inr (inr (inr (inr (inl l)))) ↦ zero_small (mul a d) (left d) l
-      | inr (inr (inr (inr (inr (inl l))))) ↦ zero_small (mul b c) (right c) l
-      | inr (inr (inr (inr (inr (inr l))))) ↦ zero_small _ ((λ n. add (left d n) (right c n)) ∙ num_add-zero num_zero) l
-    ]
+    let e = one-parts num_zero p.0 p.1 num_zero num_zero (subst (λ w. HasParts w p.0 p.1) z p.4) zero_has in
+    let none : (u w : Number) → u ≡ num_zero → mul u w ≡ num_zero = λ u w q. ap (λ n. mul n w) q ∙ num_zero-mul w in
+    steps_calm p.0 p.1 p.2 p.3 (none p.0 p.2 e.0) (none p.1 p.3 e.1) (none p.0 p.3 e.0) (none p.1 p.2 e.1) p.6
+
+pub product_zero_calm : (x y : Number) → y ≡ num_zero → ProductReaches x y → ⊥
+product_zero_calm x y z p =
+    let e = one-parts num_zero p.2 p.3 num_zero num_zero (subst (λ w. HasParts w p.2 p.3) z p.5) zero_has in
+    let none : (u w : Number) → w ≡ num_zero → mul u w ≡ num_zero = λ u w q. ap (mul u) q ∙ num_mul-zero u in
+    steps_calm p.0 p.1 p.2 p.3 (none p.0 p.2 e.0) (none p.1 p.3 e.1) (none p.0 p.3 e.1) (none p.1 p.2 e.0) p.6
 
 -- ---- a sum with one more product
 pub adds-sum : (s x y : Number) (part : Root3) (r : Result Root3 TooLarge) → IsHeldRoot (mul x y) part →

@@ -1,6 +1,5 @@
 use Rattle.std.proofs.Common.{◌≡◌, ◌∙◌, ap}
 use Rattle.tensor_defs.specs.Number.{mul, num_zero, value_of}
-use Rattle.exact_frac.specs.Held.{IsHeldAs}
 use Rattle.number_laws.proofs.NumberLaws.{num_mul-zero, num_zero-mul}
 use Rattle.root3_num.proofs.root.product_of.Goals as goal
 use Rattle.root3_num.proofs.root.product_of.Goals.{then-is_zero-via-then-is_zero, then-is_zero-via-else-is_zero+then-is_zero-2}

@@ -1,4 +1,4 @@
-use Rattle.std.proofs.Common.{◌∙◌, ap, sym}
+use Rattle.std.proofs.Common.{◌∙◌, ap}
 use Rattle.tensor_defs.specs.Number.{add, value_of}
 use Rattle.number_laws.proofs.NumberLaws.{num_add-zero, num_zero-add}
 use Rattle.root3_num.proofs.root.sum_of.Goals as goal

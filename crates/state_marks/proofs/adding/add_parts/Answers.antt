@@ -7,7 +7,7 @@ use Rattle.tensor_rank.specs.Flags.{marks_of}
 use Rattle.tensor_action.specs.Reaching.{AreParts}
 use Rattle.state_marks.specs.Sums.{IsZeros, column, factor_in}
 use Rattle.state_marks.proofs.RowTells.{free_length, row_rising, row_within}
-use Rattle.state_marks.proofs.Skips.{number_small, parts-end, parts-grow, parts-more, parts-start, row_factor}
+use Rattle.state_marks.proofs.Skips.{number_small, parts-end, parts-grow, parts-more, parts-start, row_told}
 use Rattle.state_marks.proofs.MarkLaws.{grown_told}
 use Rattle.state_marks.proofs.adding.add_parts.Goals as goal
 
@@ -24,27 +24,19 @@ pub add_part-requires-clause-within : goal.add_part-requires-clause-within
 add_part-requires-clause-within g c =
     let r = g.R.Rank.R in
     let f = c.args.form.now in
-    let ps = c.as_slice-parts.result.now in
-    let h : c.loop-place.place < length ps = omega (arith, c.loop-place-test.true) in
     let small = number_small (marks_of c.args.flags) c.args.op.now r (form_table r f) (index_of r c.args.to) (length-index_of r c.args.to)
-    ps c.loop-place.place h c.loop-place.sums c.loop-place.invariant in
-    let below : c.at.result < 3 ^ r = subst (λ n. n < 3 ^ r) (sym c.at.ensures) small in
+    c.as_slice-parts.result.now c.loop-place.place (omega (arith, c.loop-place-test.true)) c.loop-place.sums c.loop-place.invariant in
     let long : length f.free ≡ length c.loop-place.sums = sym (free_length r f) ∙ sym c.loop-place.invariant.len in
-    subst (Each (λ (t : Term). t.free < length c.loop-place.sums)) (sym c.row-row.ensures)
-    (subst (λ n. Each (λ (t : Term). t.free < n) (row_at f.rows c.at.result)) long
-    (row_within r f c.requires.formed c.at.result below))
+    rw c.row-row.ensures (subst (λ n. Each (λ t. t.free < n) (row_at f.rows c.at.result)) long
+    (row_within r f c.requires.formed c.at.result (subst (λ n. n < 3 ^ r) (sym c.at.ensures) small)))
 
 pub add_part-requires-clause-rising : goal.add_part-requires-clause-rising
 add_part-requires-clause-rising g c =
     let r = g.R.Rank.R in
     let f = c.args.form.now in
-    let ps = c.as_slice-parts.result.now in
-    let h : c.loop-place.place < length ps = omega (arith, c.loop-place-test.true) in
     let small = number_small (marks_of c.args.flags) c.args.op.now r (form_table r f) (index_of r c.args.to) (length-index_of r c.args.to)
-    ps c.loop-place.place h c.loop-place.sums c.loop-place.invariant in
-    let below : c.at.result < 3 ^ r = subst (λ n. n < 3 ^ r) (sym c.at.ensures) small in
-    subst (λ (ts : List Term). IsRising places_rise (map term_of ts)) (sym c.row-row.ensures)
-    (row_rising r f c.requires.formed c.at.result below)
+    c.as_slice-parts.result.now c.loop-place.place (omega (arith, c.loop-place-test.true)) c.loop-place.sums c.loop-place.invariant in
+    rw c.row-row.ensures (row_rising r f c.requires.formed c.at.result (subst (λ n. n < 3 ^ r) (sym c.at.ensures) small))
 
 pub returns-in_err-add_part-clause-grows : goal.returns-in_err-add_part-clause-grows
 returns-in_err-add_part-clause-grows g c =
@@ -59,11 +51,9 @@ returns-in_err-add_part-clause-grows g c =
     let k = c.loop-place.place in
     let h : k < length ps = omega (arith, c.loop-place-test.true) in
     let small = number_small m op r a i long ps k h c.loop-place.sums c.loop-place.invariant in
-    let below : c.at.result < 3 ^ r = subst (λ n. n < 3 ^ r) (sym c.at.ensures) small in
     grown_told c.from_residual.result _
     (parts-grow m op r a i long ps k h c.loop-place.sums c.loop-place.invariant c.row-row.result.now
-    (λ q. ap (λ (ts : List Term). factor_in ts q) c.row-row.ensures ∙ row_factor r f c.at.result q below
-    ∙ ap (λ n. column a q (index_of r n)) c.at.ensures) c.sign_of-sign.result c.sign_of-sign.ensures c.in_err-add_part.ensures.grows)
+    (λ q. row_told r f c.row-row.result.now c.at.result _ q c.row-row.ensures c.at.ensures small) c.sign_of-sign.result c.sign_of-sign.ensures c.in_err-add_part.ensures.grows)
 
 pub loop-place-preserved : goal.loop-place-preserved
 loop-place-preserved g c =
@@ -78,10 +68,8 @@ loop-place-preserved g c =
     let k = c.loop-place.place in
     let h : k < length ps = omega (arith, c.loop-place-test.true) in
     let small = number_small m op r a i long ps k h c.loop-place.sums c.loop-place.invariant in
-    let below : c.at.result < 3 ^ r = subst (λ n. n < 3 ^ r) (sym c.at.ensures) small in
     parts-more m op r a i long ps k h c.loop-place.sums c.loop-place.invariant c.row-row.result.now
-    (λ q. ap (λ (ts : List Term). factor_in ts q) c.row-row.ensures ∙ row_factor r f c.at.result q below
-    ∙ ap (λ n. column a q (index_of r n)) c.at.ensures) c.sign_of-sign.result c.sign_of-sign.ensures c.add_part.new.sums
+    (λ q. row_told r f c.row-row.result.now c.at.result _ q c.row-row.ensures c.at.ensures small) c.sign_of-sign.result c.sign_of-sign.ensures c.add_part.new.sums
     c.in_ok-add_part.ensures.ok
 
 pub returns-clause-ok : goal.returns-clause-ok

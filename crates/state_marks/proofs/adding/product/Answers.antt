@@ -6,12 +6,12 @@ use Rattle.root3_num.specs.Roots.{value_of_root}
 use Rattle.state_marks.proofs.Parts.{one_told, times-fraction, times-minus_one, times-one}
 use Rattle.state_marks.proofs.adding.product.Goals as goal
 
-pub returns-then-is_one : goal.returns-then-is_one
-returns-then-is_one c =
+pub returns-then-is_one_part : goal.returns-then-is_one_part
+returns-then-is_one_part c =
     let x = value_of_root c.args.factor.now in
     subst (λ (v : Root3). IsExactProduct x (value_of c.args.number.now) (Ok v)) (sym c.factor.view_is)
     (times-one c.args.factor.now c.in_lowest_terms.ensures.held c.args.number.now c.in_lowest_terms-2.ensures.held
-    (one_told c.args.number.now (sym c.is_one.ensures ∙ c.if-is_one.true)))
+    (one_told c.args.number.now (sym c.is_one_part.ensures ∙ c.if-is_one_part.true)))
 
 pub returns-then-is_minus_one : goal.returns-then-is_minus_one
 returns-then-is_minus_one c =

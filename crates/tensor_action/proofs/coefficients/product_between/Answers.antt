@@ -1,17 +1,9 @@
-use Rattle.std.proofs.Common.{◌<◌, ◌≤◌, ◌^◌, length, refl, arith}
+use Rattle.list_laws.proofs.Kit.{◌<◌, ◌≤◌, ◌^◌, ◌∙◌, length, take_all, arith}
 use Rattle.tensor_defs.specs.Tensor.{coefficient, index_of}
 use Rattle.tensor_laws.proofs.ComponentNumbers.{length-index_of}
 use Rattle.tensor_action.specs.Factors.{entry_number, product_number}
-use Rattle.tensor_action.proofs.Between.{product-start, product-more, product-end, within-place, within-more}
+use Rattle.tensor_action.proofs.Between.{product-more, within-place, within-more}
 use Rattle.tensor_action.proofs.coefficients.product_between.Goals as goal
-
-pub loop-place-init : goal.loop-place-init
-loop-place-init g c =
-    let r = g.R.Rank.R in
-    record {
-      within = c.one-product.ensures.within;
-      value = product-start c.args.op.now (index_of r c.args.to) (index_of r c.args.from) _ _ c.one-product.ensures.value refl;
-    }
 
 pub with_entry-product-requires : goal.with_entry-product-requires
 with_entry-product-requires g c =
@@ -28,9 +20,8 @@ loop-place-preserved g c =
     let l : k < length js = omega (arith, c.loop-place-test.true, c.R-place-end.ensures, length-index_of r c.args.from) in
     record {
       within = within-more k c.with_entry-product.result (c.with_entry-product.ensures.within (3 ^ k) c.loop-place.invariant.within);
-      value = product-more c.args.op.now is js (coefficient c.args.op.now is js) k (product_number c.loop-place.product)
-          (product_number c.with_entry-product.result) (entry_number c.entry_between.result) h l c.loop-place.invariant.value
-          c.entry_between.ensures c.with_entry-product.ensures.value;
+      value = product-more c.args.op.now is js k (product_number c.loop-place.product) (product_number c.with_entry-product.result)
+          (entry_number c.entry_between.result) h l c.loop-place.invariant.value c.entry_between.ensures c.with_entry-product.ensures.value;
     }
 
 pub returns-clause-value : goal.returns-clause-value
@@ -41,5 +32,4 @@ returns-clause-value g c =
     let k = c.loop-place.place in
     let h : length is ≤ k = omega (arith, c.loop-place-test.false, c.R-place-end.ensures, length-index_of r c.args.to) in
     let l : length js ≤ k = omega (arith, c.loop-place-test.false, c.R-place-end.ensures, length-index_of r c.args.from) in
-    product-end c.args.op.now is js (coefficient c.args.op.now is js) k (product_number c.loop-place.product) h l
-    c.loop-place.invariant.value
+    c.loop-place.invariant.value ∙ (λ n. coefficient c.args.op.now (take_all k is h n) (take_all k js l n))

@@ -1,24 +1,18 @@
 use Rattle.std.proofs.Common.{◌≡◌, sym, subst, inl, inr}
 use Rattle.tensor_defs.specs.Number.{Number, Root3, add, PartReaches}
 use Rattle.root3_num.specs.Roots.{value_of_root, IsHeldRoot}
-use Rattle.root3_num.proofs.Steps.{sum-reaches, sum-is, err-sum}
+use Rattle.root3_num.proofs.Steps.{sum-is, sum-refused}
 use Rattle.root3_num.proofs.root.Root3.add.Goals as goal
 
 pub returns-in_err-a : goal.returns-in_err-a
 returns-in_err-a c =
-    let r : Root3 = record { a = c.self.inside.a; b = c.self.inside.b } in
-    let s : Root3 = record { a = c.other.inside.a; b = c.other.inside.b } in
-    err-sum _ _ c.from_residual.ensures.0
-    (subst PartReaches (λ i. add (value_of_root (c.self.view_is i)) (value_of_root (c.other.view_is i)))
-    (sum-reaches r s c.self.invariant c.other.invariant (inl (c.in_err-a.ensures))))
+    sum-refused _ _ _ _ c.self.view_is c.other.view_is c.self.invariant c.other.invariant _ c.from_residual.ensures.0
+    (inl c.in_err-a.ensures)
 
 pub returns-in_err-b : goal.returns-in_err-b
 returns-in_err-b c =
-    let r : Root3 = record { a = c.self.inside.a; b = c.self.inside.b } in
-    let s : Root3 = record { a = c.other.inside.a; b = c.other.inside.b } in
-    err-sum _ _ c.from_residual-in_err-b.ensures.0
-    (subst PartReaches (λ i. add (value_of_root (c.self.view_is i)) (value_of_root (c.other.view_is i)))
-    (sum-reaches r s c.self.invariant c.other.invariant (inr (c.in_err-b.ensures))))
+    sum-refused _ _ _ _ c.self.view_is c.other.view_is c.self.invariant c.other.invariant _ c.from_residual-in_err-b.ensures.0
+    (inr c.in_err-b.ensures)
 
 pub returns : goal.returns
 returns c =
