@@ -6,7 +6,7 @@ use Rattle.list_laws.proofs.Kit.{◌≡◌, ℕ, ◌+◌, ◌<◌, List, [], ◌
 use Rattle.list_laws.proofs.Members.{each_push, each_read}
 use Rattle.tensor_defs.specs.Prelude.{Root3, mul, Operation, sum_of, Index, Tensor, Marks, act, index_of, indices}
 use Rattle.tensor_laws.proofs.ComponentNumbers.{length-index_of}
-use Rattle.tensor_action.specs.Acting.{ActGrows, IsCarriedList, SumGrows, factor, tensor_of}
+use Rattle.tensor_action.specs.Acting.{IsCarriedList, SumGrows, tensor_of}
 use Rattle.tensor_action.proofs.CarryLaws.{sum_is_act}
 use Rattle.state_marks.specs.Alike.{AreAlike}
 use Rattle.state_marks.proofs.AlikeLaws.{same_factors}

@@ -1,11 +1,10 @@
-use Rattle.std.proofs.Common.{◌≡◌, ◌<◌, ◌^◌, ◌∙◌, List, length, map, ap, subst, sym, arith}
-use Rattle.tensor_defs.specs.Prelude.{Each, IsRising, places_rise, index_of}
+use Rattle.std.proofs.Common.{◌≡◌, ◌<◌, ◌^◌, ◌∙◌, length, subst, sym, arith}
+use Rattle.tensor_defs.specs.Prelude.{Each, index_of}
 use Rattle.tensor_laws.proofs.ComponentNumbers.{length-index_of}
-use Rattle.reduced_form.specs.declared.forms.Term.{Term}
-use Rattle.reduced_form.specs.Forms.{form_table, row_at, term_of}
+use Rattle.reduced_form.specs.Forms.{form_table, row_at}
 use Rattle.tensor_rank.specs.Flags.{marks_of}
 use Rattle.tensor_action.specs.Reaching.{AreParts}
-use Rattle.state_marks.specs.Sums.{IsZeros, column, factor_in}
+use Rattle.state_marks.specs.Sums.{IsZeros}
 use Rattle.state_marks.proofs.RowTells.{free_length, row_rising, row_within}
 use Rattle.state_marks.proofs.Skips.{number_small, parts-end, parts-grow, parts-more, parts-start, row_told}
 use Rattle.state_marks.proofs.MarkLaws.{grown_told}
