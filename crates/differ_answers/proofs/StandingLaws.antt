@@ -4,12 +4,12 @@
 --   lines_here      those behind the first line of a state
 --   again_written   the text of a state with equations that stood before
 --   serves_alike    those of an operation that acts alike serve
-use Rattle.std.proofs.Common.{◌≡◌, ℕ, ◌+◌, ◌-◌, ◌^◌, ◌<◌, ◌≤◌, List, [], ◌∷◌, ◌++◌, length, drop, take, get_or, slice_range, refl, ap, sym, ◌∙◌, arith, subst, append_assoc, length-append}
+use Rattle.std.proofs.Common.{◌≡◌, ℕ, ◌+◌, ◌-◌, ◌^◌, ◌≤◌, List, [], ◌∷◌, ◌++◌, length, drop, take, slice_range, refl, ap, sym, ◌∙◌, arith, append_assoc, length-append}
 use Rattle.std.specs.List.{flat_map}
 use Rattle.std.specs.Prelude.{codes}
 use Rattle.std.specs.Fmt.{decimal}
 use Rattle.std.proofs.lemmas.List.{append-nil, drop_at, take_at}
-use Rattle.list_laws.proofs.Members.{each_at, each_map}
+use Rattle.list_laws.proofs.Members.{each_map}
 use Rattle.tensor_defs.specs.Prelude.{Each, Operation, Table, Marks}
 use Rattle.text_defs.specs.AnswerTexts.{component_name, equation, free_names, line_of, named_roots, state_text}
 use Rattle.reduced_form.specs.Prelude.{FormValue, form_table, lines_upto}

@@ -7,7 +7,7 @@
 -- Source: this project's own.
 use Rattle.std.specs.Prelude.{◌≡◌, ℕ, ◌+◌, List, ◌++◌, length}
 use Rattle.std.specs.List.{flat_map}
-use Rattle.tensor_defs.specs.Prelude.{Each, Operation, Table, Marks}
+use Rattle.tensor_defs.specs.Prelude.{Operation, Table, Marks}
 use Rattle.text_defs.specs.AnswerTexts.{component_name, equation, free_names, named_roots, state_text}
 use Rattle.state_marks.specs.Told.{AreStateRows, StateValue, row_of}
 use Rattle.differ_answers.specs.declared.known.Known.{Known}

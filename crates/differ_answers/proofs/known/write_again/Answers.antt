@@ -1,4 +1,4 @@
-use Rattle.list_laws.proofs.Kit.{◌≡◌, ◌++◌, ◌∷◌, ◌∙◌, [], List, ℕ, ap, slice_range, decimal}
+use Rattle.list_laws.proofs.Kit.{◌++◌, ◌∷◌, ◌∙◌, [], List, ℕ, ap, slice_range, decimal}
 use Rattle.std.specs.Prelude.{codes}
 use Rattle.text_defs.specs.AnswerTexts.{line_of}
 use Rattle.differ_answers.proofs.StandingLaws.{again_written}

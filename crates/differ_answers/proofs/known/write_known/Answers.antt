@@ -1,9 +1,9 @@
-use Rattle.std.proofs.Common.{◌≡◌, List, ap, subst, sym}
+use Rattle.std.proofs.Common.{subst, sym}
 use Rattle.tensor_defs.specs.Lists.{Each}
 use Rattle.reduced_form.specs.Forms.{form_table}
 use Rattle.tensor_rank.specs.Flags.{marks_of}
 use Rattle.differ_answers.specs.declared.known.Known.{Known}
-use Rattle.differ_answers.specs.Standing.{IsKnown, Serves}
+use Rattle.differ_answers.specs.Standing.{IsKnown}
 use Rattle.differ_answers.proofs.StandingLaws.{known_longer, lines_within}
 use Rattle.list_laws.proofs.Members.{each_push}
 use Rattle.differ_answers.proofs.StateTexts.{rows_named}
