@@ -5,7 +5,8 @@
 --   joined_step     the sum of two numbers, and the product of two signs
 --   digit_step      the parts of the digits at the first places of a component together
 --   IsDigitRow      these at each component
---   IsSpread        a row of steps with one index digit more
+--   longer_step     the steps of a row with one index digit more
+--   IsSpread        these, for steps by their numbers
 use Rattle.std.specs.Prelude.{◌≡◌, ℕ, ◌+◌, ◌*◌, ◌/◌, ◌%◌, ◌^◌, ◌<◌, ◌≤◌, List, [], length, get_or}
 use Rattle.std.proofs.Common.{zero, suc}
 use Rattle.tensor_defs.specs.declared.Sign.{Sign}
@@ -31,6 +32,9 @@ pub record IsDigitRow (parts : List (List Step)) (whole : Sign) (k : ℕ) (row :
   pub len : length row ≡ 3 ^ k
   pub each : (c : ℕ) → c < 3 ^ k → step_at row c ≡ digit_step parts whole k c
 
-pub record IsSpread (row part longer : List Step) : Type 0 where
-  pub len : length longer ≡ 3 * length row
-  pub each : (j d : ℕ) → j < length row → d < 3 → step_at longer (3 * j + d) ≡ joined_step (step_at row j) (step_at part d)
+abbrev pub longer_step : List Step → List Step → ℕ → Step
+longer_step row part i = joined_step (step_at row (i / 3)) (step_at part (i % 3))
+
+pub record IsSpread (steps : ℕ → Step) (count : ℕ) (part longer : List Step) : Type 0 where
+  pub len : length longer ≡ 3 * count
+  pub each : (i d : ℕ) → i < count → d < 3 → step_at longer (3 * i + d) ≡ joined_step (steps i) (step_at part d)

@@ -1,7 +1,7 @@
 -- The definitions of this crate that others cite, passed on from one place. Declares nothing.
 pub use Rattle.sign_moves.specs.Best.{AreLinks, IsBestUpTo, best_at, link_of}
 pub use Rattle.sign_moves.specs.Classes.{Clashes, IsClassTable, IsFirstOfClass, IsFixed, IsSound, entry_at, first_at, sign_at, total_of, vanishes_at}
-pub use Rattle.sign_moves.specs.Digits.{AreParts, IsDigitRow, IsSpread, joined_step, part_at}
+pub use Rattle.sign_moves.specs.Digits.{AreParts, IsDigitRow, IsSpread, joined_step, longer_step, part_at}
 unfoldable pub use Rattle.sign_moves.specs.Digits.{digit_step}
 pub use Rattle.sign_moves.specs.Firsts.{AreSettled, IsFirstTable, IsStrict}
 pub use Rattle.sign_moves.specs.Joined.{joined}

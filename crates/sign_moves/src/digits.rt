@@ -1,6 +1,6 @@
 //! Where a move carries each component, made digit by digit.
-ghost use Rattle.std.specs.Prelude.{◌≡◌, ℕ, ◌+◌, ◌*◌, ◌^◌, ◌<◌, ◌≤◌, IfOk, length, vec_capacity};
-ghost use Rattle.sign_moves.specs.Digits.{AreParts, IsDigitRow, IsSpread, joined_step};
+ghost use Rattle.std.specs.Prelude.{◌≡◌, ℕ, ◌+◌, ◌*◌, ◌^◌, ◌<◌, ◌≤◌, IfOk, length, vec_capacity, vec_len};
+ghost use Rattle.sign_moves.specs.Digits.{AreParts, IsDigitRow, IsSpread, joined_step, longer_step};
 ghost use Rattle.sign_moves.specs.Tabling.{step_at};
 
 use crate::memory::NoMemory;
@@ -37,19 +37,45 @@ fn joined_step(step: Step, part: Step) -> Step
     }
 }
 
+/// Appends what a step becomes with one index digit more.
+fn push_longer(step: Step, part: [Step; 3], longer: &mut Vec<Step>)
+    requires room { vec_len longer.old + 3 ≤ vec_capacity longer.old }
+    requires small { (d : ℕ) → d < 3 → step.to + (step_at part d).to < 65536 }
+    ensures spread { (steps : ℕ → Step) (count : ℕ) → steps count ≡ step → IsSpread steps count part longer.old.items → IsSpread steps (count + 1) part longer.new.items }
+    ensures len { vec_len longer.new ≡ vec_len longer.old + 3 }
+    ensures capacity { vec_capacity longer.new ≡ vec_capacity longer.old }
+{
+    longer.push_reserved(joined_step(step, part[0]));
+    longer.push_reserved(joined_step(step, part[1]));
+    longer.push_reserved(joined_step(step, part[2]));
+}
+
 /// The steps of the components with one index digit more, in place of those that a list held.
 fn spread(row: &[Step], part: [Step; 3], longer: &mut Vec<Step>)
     requires room { 3 * length row.now ≤ vec_capacity longer.old }
     requires small { (j d : ℕ) → j < length row.now → d < 3 → (step_at row.now j).to + (step_at part d).to < 65536 }
-    ensures spread { IsSpread row.now part longer.new.items }
+    ensures spread { IsSpread (step_at row.now) (length row.now) part longer.new.items }
+    ensures capacity { vec_capacity longer.new ≡ vec_capacity longer.old }
+{
+    longer.clear();
+    for j in 0..row.len() {
+        push_longer(row[j], part, longer);
+    }
+}
+
+/// The steps of the components with two index digits more, in place of those that a list held.
+fn spread_twice(row: &[Step], first: [Step; 3], second: [Step; 3], longer: &mut Vec<Step>)
+    requires room { 9 * length row.now ≤ vec_capacity longer.old }
+    requires small { (j d e : ℕ) → j < length row.now → d < 3 → e < 3 → (step_at row.now j).to + (step_at first d).to + (step_at second e).to < 65536 }
+    ensures spread { IsSpread (longer_step row.now first) (3 * length row.now) second longer.new.items }
     ensures capacity { vec_capacity longer.new ≡ vec_capacity longer.old }
 {
     longer.clear();
     for j in 0..row.len() {
         let step = row[j];
-        longer.push_reserved(joined_step(step, part[0]));
-        longer.push_reserved(joined_step(step, part[1]));
-        longer.push_reserved(joined_step(step, part[2]));
+        push_longer(joined_step(step, first[0]), second, longer);
+        push_longer(joined_step(step, first[1]), second, longer);
+        push_longer(joined_step(step, first[2]), second, longer);
     }
 }
 
@@ -64,7 +90,13 @@ pub fn digit_row(alloc: Global, parts: &[[Step; 3]], whole: Sign) -> Result<Vec<
     let mut row = Vec::with_capacity(alloc, room)?;
     let mut longer = Vec::with_capacity(alloc, room)?;
     row.push(Step { to: 0, sign: whole })?;
-    for place in 0..parts.len() {
+    let mut place = 0;
+    while place + 1 < parts.len() {
+        spread_twice(&row, parts[place], parts[place + 1], &mut longer);
+        swap(&mut row, &mut longer);
+        place += 2;
+    }
+    if place < parts.len() {
         spread(&row, parts[place], &mut longer);
         swap(&mut row, &mut longer);
     }

@@ -23,7 +23,7 @@ use Rattle.root3_num.proofs.RootParts.{both-at, one-parts}
 use Rattle.root3_num.proofs.Steps.{zero_has, zero_small}
 use Rattle.op_matrix.specs.Table.{nth_operation, operation_at}
 use Rattle.op_matrix.proofs.Determinants.{unit_determinant}
-use Rattle.tensor_action.proofs.DeterminantLaws.{one_down}
+use Rattle.tensor_rank.proofs.DeterminantLaws.{one_down}
 use Rattle.tensor_action.proofs.FactorLaws.{small-calm}
 use Rattle.tensor_action.proofs.IndexPlaces.{length-indices}
 use Rattle.tensor_action.proofs.SumLaws.{product_zero_calm}

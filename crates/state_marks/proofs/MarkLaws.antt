@@ -19,7 +19,7 @@ use Rattle.tensor_laws.proofs.Groups as laws
 use Rattle.tensor_laws.proofs.Prelude.{index_order, same_free, same_terms, fraction_one}
 use Rattle.answer_laws.proofs.DomainStates.{one_state_list}
 use Rattle.magnetic_groups.specs.Sets.{In, IsGroup}
-use Rattle.tensor_action.proofs.DeterminantLaws.{one_down}
+use Rattle.tensor_rank.proofs.DeterminantLaws.{one_down}
 use Rattle.tensor_rank.specs.IndexLaws.{component_below_at}
 use Rattle.reduced_form.specs.declared.forms.Term.{Term}
 use Rattle.reduced_form.specs.Forms.{FormValue, HasUnitRows, IsUnitRow, form_table, row_at, term_of, unit_fraction}

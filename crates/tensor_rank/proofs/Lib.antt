@@ -6,4 +6,4 @@ pub mod ExchangeIndex
 pub mod SymmetryLaws
 pub mod ShapeLaws
 pub mod FirstLaws
-mod DeterminantLaws
+pub mod DeterminantLaws
