@@ -43,7 +43,8 @@ pub fn check<R: Rank>(
     ensures calm { IfOk result (λ _. (j : JahnSymbol) → IsShapeOf j R.R shape.now → CheckGrows j group.now R.R (tensor_of t.now) → ⊥) }
     ensures grows { IfErr result (λ e. e ≡ ActFault.TooLarge → (j : JahnSymbol) → IsShapeOf j R.R shape.now → CheckGrows j group.now R.R (tensor_of t.now)) }
 {
-    if let Some(c) = first_broken(shape, t) {
+    let broken = first_broken(alloc, shape, t)?;
+    if let Some(c) = broken {
         return Ok(Verdict::Symmetry { c });
     }
     let flags = shape.flags();

@@ -18,7 +18,7 @@ pub use flags::Flags;
 pub use laws::orders_are_orders;
 pub use orders::Order;
 pub use ranks::{R0, R1, R2, R3, R4, R5, R6, Rank};
-pub use shapes::Shape;
+pub use shapes::{Shape, ShapeClasses};
 pub use sign_moves::NoMemory;
 pub use signs::sign_of;
 pub use symbols::{AnyShape, compile};

@@ -36,13 +36,13 @@ pub fn compile(alloc: Global, jahn: &Jahn) -> Result<AnyShape, NoMemory>
         magnetic: jahn.magnetic,
     };
     Ok(match jahn.rank() {
-        0 => AnyShape::Zero(Shape::new(alloc, flags, exchanges)?),
-        1 => AnyShape::One(Shape::new(alloc, flags, exchanges)?),
-        2 => AnyShape::Two(Shape::new(alloc, flags, exchanges)?),
-        3 => AnyShape::Three(Shape::new(alloc, flags, exchanges)?),
-        4 => AnyShape::Four(Shape::new(alloc, flags, exchanges)?),
-        5 => AnyShape::Five(Shape::new(alloc, flags, exchanges)?),
-        _ => AnyShape::Six(Shape::new(alloc, flags, exchanges)?),
+        0 => AnyShape::Zero(Shape::new(flags, exchanges)),
+        1 => AnyShape::One(Shape::new(flags, exchanges)),
+        2 => AnyShape::Two(Shape::new(flags, exchanges)),
+        3 => AnyShape::Three(Shape::new(flags, exchanges)),
+        4 => AnyShape::Four(Shape::new(flags, exchanges)),
+        5 => AnyShape::Five(Shape::new(flags, exchanges)),
+        _ => AnyShape::Six(Shape::new(flags, exchanges)),
     })
 }
 

@@ -9,9 +9,10 @@ use std::alloc::Global;
 use std::test::Fail;
 
 /// The representative of a component in index order, by its number, with the sign.
-fn first_in<R: Rank>(shape: &Shape<R>, number: u16) -> Option<(u16, Sign)> {
+fn first_in<R: Rank>(alloc: Global, shape: &Shape<R>, number: u16) -> Option<(u16, Sign)> {
     let c = Comp::from_number(number)?;
-    let (first, sign) = shape.representative(&Order::index(), c)?;
+    let classes = shape.classes(alloc).ok()?;
+    let (first, sign) = classes.representative(&Order::index(), c)?;
     Some((first.number(), sign))
 }
 
@@ -22,7 +23,7 @@ fn first_of(alloc: Global, word: &str, number: u16) -> Option<(u16, Sign)> {
     }
     let jahn = read_jahn(alloc, word.as_bytes()).ok()?;
     let shape = compile(alloc, &jahn).ok()?;
-    at_rank!(shape, s => first_in(&s, number))
+    at_rank!(shape, s => first_in(alloc, &s, number))
 }
 
 /// Whether the table of first components in index order has this one.

@@ -4,14 +4,14 @@ use Rattle.sign_moves.specs.Prelude.{entry_at, first_at, sign_at, IsClassTable, 
 use Rattle.tensor_rank.specs.Prelude.{exchange_moves, before_at, IsFirstBelow}
 use Rattle.tensor_rank.proofs.ExchangeLaws.{exchanges_reversible}
 use Rattle.tensor_rank.proofs.ShapeLaws.{shape_told, root_own, ShapeTells, entry_is, first_of_below, none_told, some_told}
-use Rattle.tensor_rank.proofs.shapes.Shape.representative.Goals as goal
+use Rattle.tensor_rank.proofs.shapes.ShapeClasses.representative.Goals as goal
 
 pub returns-then-index : goal.returns-then-index
 returns-then-index g c j s =
     let n = g.R.Rank.LEN in
     let r = g.R.Rank.R in
-    let xs = c.self.inside.exchanges.items in
-    let table : List Entry = c.self.inside.classes.items in
+    let xs = c.self.inside.shape.now.exchanges in
+    let table : List Entry = c.self.inside.table.items in
     let classes : IsClassTable n (exchange_moves r xs) table = c.self.invariant.1 in
     let back : IsReversible n (exchange_moves r xs) = exchanges_reversible n r xs g.R.Rank.power c.self.invariant.0 in
     let below : c.args.c < n = subst (λ (x : ℕ). x < n) c.number.ensures.same c.number.ensures.in_range in
@@ -30,8 +30,8 @@ pub first_of_class-first-requires-clause-root : goal.first_of_class-first-requir
 first_of_class-first-requires-clause-root g c =
     let n = g.R.Rank.LEN in
     let r = g.R.Rank.R in
-    let xs = c.self.inside.exchanges.items in
-    let table : List Entry = c.self.inside.classes.items in
+    let xs = c.self.inside.shape.now.exchanges in
+    let table : List Entry = c.self.inside.table.items in
     let classes : IsClassTable n (exchange_moves r xs) table = c.self.invariant.1 in
     let back : IsReversible n (exchange_moves r xs) = exchanges_reversible n r xs g.R.Rank.power c.self.invariant.0 in
     let below : c.args.c < n = subst (λ (x : ℕ). x < n) c.number.ensures.same c.number.ensures.in_range in
@@ -46,8 +46,8 @@ pub returns : goal.returns
 returns g c j s =
     let n = g.R.Rank.LEN in
     let r = g.R.Rank.R in
-    let xs = c.self.inside.exchanges.items in
-    let table : List Entry = c.self.inside.classes.items in
+    let xs = c.self.inside.shape.now.exchanges in
+    let table : List Entry = c.self.inside.table.items in
     let classes : IsClassTable n (exchange_moves r xs) table = c.self.invariant.1 in
     let back : IsReversible n (exchange_moves r xs) = exchanges_reversible n r xs g.R.Rank.power c.self.invariant.0 in
     let below : c.args.c < n = subst (λ (x : ℕ). x < n) c.number.ensures.same c.number.ensures.in_range in
