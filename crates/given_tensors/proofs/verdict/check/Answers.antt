@@ -8,11 +8,11 @@ use Rattle.given_tensors.proofs.verdict.check.Goals as goal
 
 pub returns-in-Some-clause-exact : goal.returns-in-Some-clause-exact
 returns-in-Some-clause-exact g c = λ j is inv.
-    absurd (not_broken j g.R.Rank.R g.R.Rank.LEN (tensor_of c.args.t.now) c.in-Some.c (c.in-Some.ensures j is) inv.symmetric)
+    absurd (not_broken j g.R.Rank.R g.R.Rank.LEN (tensor_of c.args.t.now) c.in-Some.c (rw c.in-Some.is at (c.in_ok-broken.ensures.found j is)) inv.symmetric)
 
 pub returns-in-Some-clause-calm : goal.returns-in-Some-clause-calm
 returns-in-Some-clause-calm g c = λ j is x.
-    not_broken j g.R.Rank.R g.R.Rank.LEN (tensor_of c.args.t.now) c.in-Some.c (c.in-Some.ensures j is) x.symmetric
+    not_broken j g.R.Rank.R g.R.Rank.LEN (tensor_of c.args.t.now) c.in-Some.c (rw c.in-Some.is at (c.in_ok-broken.ensures.found j is)) x.symmetric
 
 pub returns-in-Ok-Some-clause-exact : goal.returns-in-Ok-Some-clause-exact
 returns-in-Ok-Some-clause-exact g c = λ j is inv.
@@ -29,7 +29,7 @@ pub returns-in-Err-clause-grows : goal.returns-in-Err-clause-grows
 returns-in-Err-clause-grows g c = λ large j is.
     let below : c.loop-place.place < length c.args.group.now = omega (arith, c.loop-place-test.true, c.len-place-end.ensures.is) in
     checked_grows (marks_of c.flags-flags.result) g.R.Rank.R (tensor_of c.args.t.now) c.args.group.now c.loop-place.place c.loop-place.invariant.0 j (c.flags-flags.ensures ∙ is.marks_are)
-    (c.in_default.ensures j is) below c.at.result (c.at.ensures.reads identity) (c.in-Err.ensures.grows large)
+    (rw c.in_default.is at (c.in_ok-broken.ensures.found j is)) below c.at.result (c.at.ensures.reads identity) (c.in-Err.ensures.grows large)
 
 pub loop-place-init : goal.loop-place-init
 loop-place-init g c = (
@@ -47,7 +47,7 @@ loop-place-preserved g c = (
 pub returns-clause-verdict : goal.returns-clause-verdict
 returns-clause-verdict g c = λ j is.
     let whole : length c.args.group.now ≤ c.loop-place.place = omega (arith, c.loop-place-test.false, c.len-place-end.ensures.is) in
-    invariant_end (marks_of c.flags-flags.result) g.R.Rank.R (tensor_of c.args.t.now) c.args.group.now c.loop-place.place c.loop-place.invariant.0 j (c.flags-flags.ensures ∙ is.marks_are) whole (c.in_default.ensures j is) is.rank_is
+    invariant_end (marks_of c.flags-flags.result) g.R.Rank.R (tensor_of c.args.t.now) c.args.group.now c.loop-place.place c.loop-place.invariant.0 j (c.flags-flags.ensures ∙ is.marks_are) whole (rw c.in_default.is at (c.in_ok-broken.ensures.found j is)) is.rank_is
 
 pub returns-clause-calm : goal.returns-clause-calm
 returns-clause-calm g c = λ j is x.
