@@ -1,6 +1,7 @@
 //! How a run ends.
 ghost use Rattle.std.specs.Prelude.{◌≡◌};
-ghost use Rattle.line_runs.specs.Outcomes.{outcome_at, status_of};
+ghost use Rattle.std.specs.Option.{option_map};
+ghost use Rattle.line_runs.specs.Outcomes.{outcome_at, status_of, word_on};
 
 /// How a run ended.
 #[derive(Clone, Copy, Debug, PartialEq, Eq, Drop)]
@@ -27,6 +28,20 @@ impl Outcome {
             Outcome::WriteFault => 4,
             Outcome::NoMemory => 5,
             Outcome::InputLimit => 6,
+        }
+    }
+
+    /// What a person is told of a run that ended before its time, if anything.
+    pub fn word(self) -> Option<&'static str>
+        ensures { option_map (λ word. word.now) result ≡ word_on self }
+    {
+        match self {
+            Outcome::Answered | Outcome::SomeRefused => None,
+            Outcome::Usage => Some("usage: tensors [--generate N --seed S]"),
+            Outcome::ReadFault => Some("tensors: reading standard input failed"),
+            Outcome::WriteFault => Some("tensors: writing standard output failed"),
+            Outcome::NoMemory => Some("tensors: memory was refused"),
+            Outcome::InputLimit => Some("tensors: standard input has more than 4294967296 bytes"),
         }
     }
 }
