@@ -1,6 +1,7 @@
 """Answers of `form` and `voigt` as linear maps of the free components: read(lines) gives for each answer its header, the names
 of its free components, and an array of shape (.., number of free) whose product with their values is the tensor."""
 import re
+import sys
 
 import numpy as np
 
@@ -26,3 +27,8 @@ def as_array(rows):
         for sign, over, under, name in re.findall(r"([+-]?)(?:(\d+)(?:/(\d+))?\*)?([Tcs]\d*)", value):
             array[place + (free.index(name),)] += float(sign + (over or "1")) / float(under or 1)
     return free, array
+
+
+if __name__ == "__main__":
+    for header, free, array in read(sys.stdin):
+        print(header, free, array.shape)
