@@ -3,17 +3,20 @@
 --   triple_at      the digits of a component of rank 3, looked up
 --   six_text       those of a component of rank 6, by two that are looked up
 --   last_digit     a component of a lower rank has the last of these
+--   line_last      its name behind what its rank leaves over, and before more bytes
+--   eight_told     the first of eight bytes
 use Rattle.list_laws.proofs.Kit.{◌≡◌, ℕ, zero, suc, ◌+◌, ◌-◌, ◌*◌, ◌/◌, ◌%◌, ◌^◌, ◌<◌, ◌≤◌, List, [], ◌∷◌, ◌++◌, map, length, get_or, refl, ap, sym, ◌∙◌, arith}
 use Rattle.list_laws.proofs.Kit.{range_with_len, get_or-map-range_with_len, div-add-mod, add-mul, mul_assoc, mul_comm}
 use Rattle.list_laws.proofs.Kit.{lit<}
-use Rattle.std.specs.Prelude.{slice_index_or}
-use Rattle.std.proofs.lemmas.List.{get_or-append-add}
+use Rattle.std.specs.Prelude.{drop, slice_index_or, slice_range, slice_set, take}
+use Rattle.std.proofs.lemmas.List.{append_assoc, drop-set, drop_all, drop_more, get_or-append-add}
+use Rattle.std.proofs.Math.Seq.{drop-append_seam, take-append-add}
 use Rattle.std.proofs.lemmas.Nat.{mul-add-lt, pow-add}
 use Rattle.std.proofs.Math.Nat.{mod-lt, one-le-pow}
 use Rattle.tensor_defs.specs.Prelude.{x1, Index, axis_at, digit, index_of}
 use Rattle.tensor_laws.proofs.Prelude.{index_at}
 use Rattle.tensor_laws.proofs.ComponentNumbers.{length-index_of}
-use Rattle.text_defs.specs.AnswerTexts.{digits_text}
+use Rattle.text_defs.specs.AnswerTexts.{component_name, digits_text}
 use Rattle.reduced_form.specs.declared.writing.TheConstants.{TRIPLES}
 
 index_split : (a b k q c : ℕ) → k ≡ a + b → q < 3 ^ a → c < 3 ^ b → index_of k (q * 3 ^ b + c) ≡ index_of a q ++ index_of b c
@@ -73,3 +76,55 @@ last_digit r c p few h below =
     text_digit (index_of 6 c) (6 - r + p) inside
     ∙ (λ i. 48 + digit (get_or (split i) (sym long i + p) x1))
     ∙ ap (λ j. 48 + digit j) (get_or-append-add (index_of (6 - r) 0) (index_of r c) p x1)
+
+digits_joined : (is js : Index) → digits_text (map digit (is ++ js)) ≡ digits_text (map digit is) ++ digits_text (map digit js)
+digits_joined [] js = refl
+digits_joined (i ∷ is) js = ap (λ x. (48 + digit i) ∷ x) (digits_joined is js)
+
+digits_long : (is : Index) → length (digits_text (map digit is)) ≡ length is
+digits_long [] = refl
+digits_long (i ∷ is) = ap suc (digits_long is)
+
+-- a name behind what the rank leaves over, and before more bytes
+named_last : (r c e end : ℕ) (tail : List ℕ) → r ≤ 6 → c < 3 ^ r → end ≡ 7 + e →
+    slice_range (slice_set (84 ∷ (digits_text (map digit (index_of 6 c)) ++ tail)) (6 - r) 84) (6 - r) end ≡ component_name (index_of r c) ++ take e tail
+named_last r c e end tail few h is =
+    let n : ℕ = 6 - r in
+    let six : List ℕ = digits_text (map digit (index_of 6 c)) in
+    let front : List ℕ = digits_text (map digit (index_of n 0)) in
+    let own : List ℕ = digits_text (map digit (index_of r c)) in
+    let split : six ≡ front ++ own =
+    ap (λ js. digits_text (map digit js)) (ap (index_of 6) (omega arith) ∙ index_split n r 6 0 c (omega arith) (one-le-pow n 3 (lit< tt)) h)
+    ∙ digits_joined (index_of n 0) (index_of r c) in
+    let long : length front ≡ n = digits_long (index_of n 0) ∙ length-index_of n 0 in
+    let own_long : length own ≡ r = digits_long (index_of r c) ∙ length-index_of r c in
+    let room : n < length (84 ∷ (six ++ tail)) = omega arith in
+    let next : n + 1 ≡ suc n = omega arith in
+    let rest : drop n (six ++ tail) ≡ own ++ tail =
+    ap (λ x. drop n (x ++ tail)) split ∙ ap (drop n) (append_assoc front own tail)
+    ∙ (λ i. drop (sym long i) (front ++ (own ++ tail))) ∙ drop-append_seam front (own ++ tail) in
+    let count : end - n ≡ length (84 ∷ own) + e = omega arith in
+    ap (take (end - n)) (drop-set (84 ∷ (six ++ tail)) n 84 room ∙ ap (λ k. 84 ∷ drop k (84 ∷ (six ++ tail))) next ∙ ap (λ x. 84 ∷ x) rest)
+    ∙ ap (λ k. take k ((84 ∷ own) ++ tail)) count ∙ take-append-add (84 ∷ own) tail e
+
+abbrev spelled : List ℕ → List ℕ → List ℕ
+spelled ds tail = 84 ∷ get_or ds 0 0 ∷ get_or ds 1 0 ∷ get_or ds 2 0 ∷ get_or ds 3 0 ∷ get_or ds 4 0 ∷ get_or ds 5 0 ∷ tail
+
+pub line_last : {ds : List ℕ} {n len k r c end : ℕ} (tail : List ℕ) (e : ℕ) → ds ≡ digits_text (map digit (index_of 6 n)) → n ≡ c → n < len →
+    len ≡ 3 ^ r → k ≡ r → r ≤ 6 → end ≡ 7 + e →
+    slice_range (slice_set (spelled ds tail) (6 - k) 84) (6 - r) end ≡ component_name (index_of r c) ++ take e tail
+line_last {r = r} {c} {end} tail e digits same inside power rank few is =
+    let below : c < 3 ^ r = rw (sym same, sym power) inside in
+    (λ i. slice_range (slice_set (spelled (digits i) tail) (6 - rank i) 84) (6 - r) end)
+    ∙ ap (λ m. slice_range (slice_set (84 ∷ (digits_text (map digit (index_of 6 m)) ++ tail)) (6 - r) 84) (6 - r) end) same
+    ∙ named_last r c e end tail few below is
+
+listed_from : (n i : ℕ) (xs : List ℕ) → length xs ≡ i + n → map (λ k. get_or xs k 0) (range_with_len i n) ≡ drop i xs
+listed_from zero i xs h = sym (drop_all i xs (omega arith))
+listed_from (suc n) i xs h =
+    ap (λ x. get_or xs i 0 ∷ x) (listed_from n (i + 1) xs (omega arith)) ∙ sym (drop_more xs i 0 (omega arith))
+
+-- the first of eight bytes
+pub eight_told : (xs ys : List ℕ) (n : ℕ) → length xs ≡ 8 → take n xs ≡ ys →
+    take n (get_or xs 0 0 ∷ get_or xs 1 0 ∷ get_or xs 2 0 ∷ get_or xs 3 0 ∷ get_or xs 4 0 ∷ get_or xs 5 0 ∷ get_or xs 6 0 ∷ get_or xs 7 0 ∷ []) ≡ ys
+eight_told xs ys n long is = ap (take n) (listed_from 8 0 xs long) ∙ is

@@ -4,7 +4,7 @@
 --   IsMarkedUpTo, marks_start, marks_more, marks_done    marks of the free components
 --   sum_whole, named_term, sum_grown, sum_done, unit_text, minus_first    sums
 --   name_grown, name_done    names
---   terms_named, free_line, sum_line, zero_line    lines
+--   terms_named, free_line, sum_line    lines
 --   grown_twice, lines_start, lines_grown    lists that have grown
 use Rattle.list_laws.proofs.Kit.{◌≡◌, ℕ, zero, suc, ◌+◌, ◌*◌, ◌^◌, ◌<◌, ◌≤◌, Bool, true, false, List, [], ◌∷◌, ◌++◌, map, length, get_or, inl, inr, refl, ap}
 use Rattle.list_laws.proofs.Kit.{sym, ◌∙◌, arith, subst, flat_map, pow-suc, flat_map-append, get_or-set_at, length-map, length-set, get_or-set_other}
@@ -16,9 +16,8 @@ use Rattle.tensor_defs.specs.declared.Sign.TheVariants.{Plus, Minus}
 use Rattle.list_laws.proofs.Tests.{either_left, either_right, either_none}
 use Rattle.tensor_laws.proofs.Prelude.{same_own, same_told, number-index_of, index_at}
 use Rattle.tensor_defs.specs.Prelude.{Each, Axis, x1, x2, x3, Index, axis_at, component_number, digit, index_of, indices, same_index}
-use Rattle.text_defs.specs.AnswerTexts.{component_line, component_name, digits_text, free_names, has_index, named, rational, row_text}
+use Rattle.text_defs.specs.AnswerTexts.{component_line, component_name, digits_text, equation, free_names, has_index, named, rational, row_text}
 use Rattle.text_defs.specs.NumberTexts.{NamedTerm, joined, later_terms, sum_text, term_text}
-use Rattle.text_laws.proofs.Joins.{equation_joined, free_joined}
 use Rattle.reduced_form.specs.declared.forms.Term.{Term}
 use Rattle.reduced_form.specs.Forms.{FormValue, form_table, free_at, row_at, term_of, unit_fraction}
 use Rattle.reduced_form.specs.Texts.{AreFreeMarks, IsLonger, lines_upto, named_terms, placed, sum_from, text_at}
@@ -234,33 +233,20 @@ terms_named r c f h e =
     ap (λ d. named (free_names (form_table r f)) (map term_of (row_at f.rows d))) (number-index_of r c h)
     ∙ row_named r f (row_at f.rows c) e
 
-pub free_line : (r c : ℕ) (f : FormValue) (old one new name : List ℕ) → has_index (map (index_of r) f.free) (index_of r c) ≡ true →
-    name ≡ component_name (index_of r c) → one ≡ old ++ name → new ≡ one ++ (32 ∷ (codes "free" ++ 10 ∷ [])) →
-    new ≡ old ++ component_line (form_table r f) (index_of r c)
-free_line r c f old one new name free is a b =
-    b ∙ ap (λ x. x ++ (32 ∷ (codes "free" ++ 10 ∷ []))) (a ∙ ap (λ x. old ++ x) is) ∙ free_joined old (component_name (index_of r c))
-    ∙ ap (λ t. old ++ row_text t (component_name (index_of r c)) (named (free_names (form_table r f)) ((form_table r f).terms (index_of r c)))) (sym free)
+pub free_line : (r c : ℕ) (f : FormValue) (old new line : List ℕ) → has_index (map (index_of r) f.free) (index_of r c) ≡ true →
+    line ≡ component_name (index_of r c) ++ (32 ∷ (codes "free" ++ 10 ∷ [])) → new ≡ old ++ line → new ≡ old ++ component_line (form_table r f) (index_of r c)
+free_line r c f old new line free is grown =
+    let name : List ℕ = component_name (index_of r c) in
+    grown ∙ ap (λ x. old ++ x) (is ∙ sym (append_assoc name (32 ∷ codes "free") (10 ∷ [])))
+    ∙ ap (λ t. old ++ row_text t name (named (free_names (form_table r f)) ((form_table r f).terms (index_of r c)))) (sym free)
 
-pub sum_line : (r c : ℕ) (f : FormValue) (old one two three new name : List ℕ) → has_index (map (index_of r) f.free) (index_of r c) ≡ false →
+pub sum_line : (r c : ℕ) (f : FormValue) (old new : List ℕ) → has_index (map (index_of r) f.free) (index_of r c) ≡ false →
     c < 3 ^ r → Each (λ t. t.free < length f.free) (row_at f.rows c) →
-    name ≡ component_name (index_of r c) → one ≡ old ++ name → two ≡ one ++ (32 ∷ 61 ∷ 32 ∷ []) →
-    three ≡ two ++ sum_text (named_terms r f (row_at f.rows c)) → new ≡ three ++ 10 ∷ [] →
-    new ≡ old ++ component_line (form_table r f) (index_of r c)
-sum_line r c f old one two three new name free below each is a b d e =
-    e ∙ ap (λ x. x ++ 10 ∷ []) (d ∙ ap (λ x. x ++ sum_text (named_terms r f (row_at f.rows c))) (b ∙ ap (λ x. x ++ (32 ∷ 61 ∷ 32 ∷ [])) (a ∙ ap (λ x. old ++ x) is)))
-    ∙ equation_joined old (component_name (index_of r c)) (sum_text (named_terms r f (row_at f.rows c)))
-    ∙ ap (λ ts. old ++ row_text false (component_name (index_of r c)) ts) (sym (terms_named r c f below each))
-    ∙ ap (λ t. old ++ row_text t (component_name (index_of r c)) (named (free_names (form_table r f)) ((form_table r f).terms (index_of r c)))) (sym free)
-
-pub zero_line : (r c : ℕ) (f : FormValue) (old one new : List ℕ) → has_index (map (index_of r) f.free) (index_of r c) ≡ false → c < 3 ^ r →
-    row_at f.rows c ≡ [] → one ≡ old ++ component_name (index_of r c) → new ≡ one ++ (32 ∷ 61 ∷ 32 ∷ 48 ∷ 10 ∷ []) → new ≡ old ++ component_line (form_table r f) (index_of r c)
-zero_line r c f old one new free below none a b =
-    let two : List ℕ = one ++ (32 ∷ 61 ∷ 32 ∷ []) in
-    let joined_up : one ++ (32 ∷ 61 ∷ 32 ∷ 48 ∷ 10 ∷ []) ≡ (two ++ 48 ∷ []) ++ 10 ∷ [] =
-    sym (append_assoc two (48 ∷ []) (10 ∷ []) ∙ append_assoc one (32 ∷ 61 ∷ 32 ∷ []) (48 ∷ 10 ∷ [])) in
-    sum_line r c f old one two (two ++ 48 ∷ []) new (component_name (index_of r c)) free below
-    (subst (λ (ts : List Term). Each (λ t. t.free < length f.free) ts) (sym none) tt) refl a refl
-    (ap (λ (ts : List Term). two ++ sum_text (named_terms r f ts)) (sym none)) (b ∙ joined_up)
+    new ≡ old ++ equation (component_name (index_of r c)) (named_terms r f (row_at f.rows c)) → new ≡ old ++ component_line (form_table r f) (index_of r c)
+sum_line r c f old new free below each grown =
+    let name : List ℕ = component_name (index_of r c) in
+    grown ∙ ap (λ ts. old ++ equation name ts) (sym (terms_named r c f below each))
+    ∙ ap (λ t. old ++ row_text t name (named (free_names (form_table r f)) ((form_table r f).terms (index_of r c)))) (sym free)
 
 -- ---- lists that have grown
 pub grown_twice : {a b c : List ℕ} → IsLonger a b → IsLonger b c → IsLonger a c

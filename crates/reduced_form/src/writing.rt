@@ -1,8 +1,8 @@
 //! The component lines of a table.
-ghost use Rattle.std.specs.Prelude.{◌≡◌, ◌+◌, ◌++◌, ◌<◌, ◌≤◌, ℕ, List, length, map, take, codes, IfOk, IfSome, OnOk, OnErr, IsTrue, vec_len, vec_capacity};
+ghost use Rattle.std.specs.Prelude.{◌≡◌, ◌+◌, ◌-◌, ◌∷◌, [], ◌++◌, ◌<◌, ◌≤◌, ℕ, List, length, map, take, codes, IfOk, IfSome, OnOk, OnErr, IsTrue, slice_range, vec_len, vec_capacity};
 ghost use Rattle.tensor_defs.specs.Lists.{Each};
 ghost use Rattle.tensor_defs.specs.Tensor.{digit, index_of};
-ghost use Rattle.text_defs.specs.AnswerTexts.{digits_text, component_line, component_name, rational, table_text};
+ghost use Rattle.text_defs.specs.AnswerTexts.{digits_text, component_line, component_name, equation, rational, table_text};
 ghost use Rattle.text_defs.specs.NumberTexts.{factor_text, is_negative, is_one, sum_text, term_text, without_sign};
 ghost use Rattle.smallvec.specs.SmallVec.{HasRoomFor, small_vec_len};
 ghost use Rattle.reduced_form.specs.Forms.{form_table, free_at, unit_fraction};
@@ -29,7 +29,7 @@ pub fn append_to(out: &mut Vec<u8>, bytes: &[u8]) -> Result<(), NoMemory>
 
 /// The index digits of the components of rank 3, in index order.
 #[rattlefmt::skip]
-const TRIPLES: [[u8; 3]; 27] = [
+static TRIPLES: [[u8; 3]; 27] = [
     *b"111", *b"112", *b"113", *b"121", *b"122", *b"123", *b"131", *b"132", *b"133",
     *b"211", *b"212", *b"213", *b"221", *b"222", *b"223", *b"231", *b"232", *b"233",
     *b"311", *b"312", *b"313", *b"321", *b"322", *b"323", *b"331", *b"332", *b"333",
@@ -55,6 +55,75 @@ pub fn name_bytes<R: Rank>(c: Comp<R>) -> [u8; 7]
         name[place + 1] = digits[6 - R::R + place];
     }
     name
+}
+
+/// The line of a free component as the last bytes, and before it what the rank leaves over.
+fn free_line<R: Rank>(c: Comp<R>) -> [u8; 13]
+    ensures { slice_range result (6 - R.R) 13 ≡ component_name (index_of R.R c) ++ 32 ∷ (codes "free" ++ 10 ∷ []) }
+{
+    let digits = six_digits(c.number() as usize);
+    #[rattlefmt::skip]
+    let mut line = [
+        b'T', digits[0], digits[1], digits[2], digits[3], digits[4], digits[5],
+        b' ', b'f', b'r', b'e', b'e', b'\n',
+    ];
+    line[6 - R::R] = b'T';
+    line
+}
+
+/// The line of a component that is 0 as the last bytes, and before it what the rank leaves over.
+fn zero_line<R: Rank>(c: Comp<R>) -> [u8; 12]
+    ensures { slice_range result (6 - R.R) 12 ≡ component_name (index_of R.R c) ++ 32 ∷ 61 ∷ 32 ∷ 48 ∷ 10 ∷ [] }
+{
+    let digits = six_digits(c.number() as usize);
+    #[rattlefmt::skip]
+    let mut line = [
+        b'T', digits[0], digits[1], digits[2], digits[3], digits[4], digits[5],
+        b' ', b'=', b' ', b'0', b'\n',
+    ];
+    line[6 - R::R] = b'T';
+    line
+}
+
+/// The name of a component and the end of its line, and behind it what the rank leaves over.
+fn last_name<R: Rank>(c: Comp<R>) -> [u8; 8]
+    ensures { take (R.R + 2) result ≡ component_name (index_of R.R c) ++ 10 ∷ [] }
+{
+    let name = name_bytes(c);
+    #[rattlefmt::skip]
+    let mut last = [name[0], name[1], name[2], name[3], name[4], name[5], name[6], b'\n'];
+    last[R::R + 1] = b'\n';
+    last
+}
+
+/// The line of a component that is a free one, before and behind it what the rank leaves over.
+fn plus_line<R: Rank>(c: Comp<R>, free: Comp<R>) -> [u8; 18]
+    ensures { slice_range result (6 - R.R) (R.R + 12) ≡ component_name (index_of R.R c) ++ 32 ∷ 61 ∷ 32 ∷ (component_name (index_of R.R free) ++ 10 ∷ []) }
+{
+    let digits = six_digits(c.number() as usize);
+    let last = last_name(free);
+    #[rattlefmt::skip]
+    let mut line = [
+        b'T', digits[0], digits[1], digits[2], digits[3], digits[4], digits[5], b' ', b'=', b' ',
+        last[0], last[1], last[2], last[3], last[4], last[5], last[6], last[7],
+    ];
+    line[6 - R::R] = b'T';
+    line
+}
+
+/// The line of a component that is minus a free one, before and behind it what the rank leaves over.
+fn minus_line<R: Rank>(c: Comp<R>, free: Comp<R>) -> [u8; 19]
+    ensures { slice_range result (6 - R.R) (R.R + 13) ≡ component_name (index_of R.R c) ++ 32 ∷ 61 ∷ 32 ∷ 45 ∷ (component_name (index_of R.R free) ++ 10 ∷ []) }
+{
+    let digits = six_digits(c.number() as usize);
+    let last = last_name(free);
+    #[rattlefmt::skip]
+    let mut line = [
+        b'T', digits[0], digits[1], digits[2], digits[3], digits[4], digits[5], b' ', b'=', b' ', b'-',
+        last[0], last[1], last[2], last[3], last[4], last[5], last[6], last[7],
+    ];
+    line[6 - R::R] = b'T';
+    line
 }
 
 /// Appends the name of a component.
@@ -207,12 +276,77 @@ fn free_marks<R: Rank>(form: &Form<R>) -> Result<Vec<bool>, NoMemory>
 {
     let mut marks = Vec::with_capacity(*form.free.allocator(), R::LEN)?;
     for _ in 0..R::LEN {
-        marks.push(false)?;
+        marks.push_reserved(false);
     }
     for place in 0..form.free.len() {
         marks[form.free[place] as usize] = true;
     }
     Ok(marks)
+}
+
+/// Appends the line of a component that is a free one with a sign.
+fn write_unit<R: Rank>(
+    c: Comp<R>,
+    sign: Sign,
+    free: Comp<R>,
+    out: &mut Vec<u8>,
+) -> Result<(), NoMemory>
+    ensures ok { OnOk result (out.new.items ≡ out.old.items ++ equation (component_name (index_of R.R c)) (record { factor = rational (unit_fraction sign); name = component_name (index_of R.R free) } ∷ [])) }
+    ensures longer { IsLonger out.old.items out.new.items }
+    ensures capacity { vec_capacity out.old ≤ vec_capacity out.new }
+{
+    match sign {
+        Sign::Plus => {
+            let line = plus_line(c, free);
+            append_to(out, &line[6 - R::R..R::R + 12])
+        }
+        Sign::Minus => {
+            let line = minus_line(c, free);
+            append_to(out, &line[6 - R::R..R::R + 13])
+        }
+    }
+}
+
+/// Appends the line of a component that is a sum, piece by piece.
+fn write_terms<R: Rank>(
+    form: &Form<R>,
+    c: Comp<R>,
+    row: &[Term],
+    out: &mut Vec<u8>,
+) -> Result<(), NoMemory>
+    requires { Each (λ t. t.free < length form.now.free) row.now }
+    ensures ok { OnOk result (out.new.items ≡ out.old.items ++ equation (component_name (index_of R.R c)) (named_terms R.R form.now row.now)) }
+    ensures longer { IsLonger out.old.items out.new.items }
+    ensures capacity { vec_capacity out.old ≤ vec_capacity out.new }
+{
+    write_name(c, out)?;
+    append_to(out, b" = ")?;
+    write_sum(form, row, out)?;
+    append_to(out, b"\n")
+}
+
+/// Appends the line of a component that isn't free: what is 0 or plus or minus one free component at once.
+fn write_equation<R: Rank>(
+    form: &Form<R>,
+    c: Comp<R>,
+    row: &[Term],
+    out: &mut Vec<u8>,
+) -> Result<(), NoMemory>
+    requires { Each (λ t. t.free < length form.now.free) row.now }
+    ensures ok { OnOk result (out.new.items ≡ out.old.items ++ equation (component_name (index_of R.R c)) (named_terms R.R form.now row.now)) }
+    ensures longer { IsLonger out.old.items out.new.items }
+    ensures capacity { vec_capacity out.old ≤ vec_capacity out.new }
+{
+    if row.is_empty() {
+        let line = zero_line(c);
+        return append_to(out, &line[6 - R::R..12]);
+    }
+    if row.len() == 1 {
+        if let Some(sign) = unit_sign(&row[0].factor) {
+            return write_unit(c, sign, form.free_at(row[0].free as usize), out);
+        }
+    }
+    write_terms(form, c, row, out)
 }
 
 /// Appends the line of the component of a number.
@@ -231,17 +365,11 @@ fn write_line<R: Rank>(
     // a field that is read brings the invariant into the proof
     let _free = &form.free;
     let c = Comp::at(number);
-    write_name(c, out)?;
     if marks[number] {
-        return append_to(out, b" free\n");
+        let line = free_line(c);
+        return append_to(out, &line[6 - R::R..13]);
     }
-    let row = form.row(c);
-    if row.is_empty() {
-        return append_to(out, b" = 0\n");
-    }
-    append_to(out, b" = ")?;
-    write_sum(form, row, out)?;
-    append_to(out, b"\n")
+    write_equation(form, c, form.row(c), out)
 }
 
 /// Appends the lines of all components. After an error, lines may stand behind what was there.
