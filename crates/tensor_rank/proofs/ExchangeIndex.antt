@@ -1,11 +1,13 @@
 -- The exchanges of index lists are those of component numbers.
 --   its_exchange, length_exchanged, its_within, exchange_index, CanExchange, can_exchange
 --       an exchange of index lists
---   IsListed, listed_left, listed_right, two_listed, each_exchange, numbered ..
---       the list of the exchanges of brackets
+--   each_exchange, numbered, symmetric_kept, kept_symmetric ..
+--       index symmetry is to be kept by each listed exchange
 use Rattle.list_laws.proofs.Kit.{◌≡◌, ℕ, zero, suc, ◌+◌, ◌-◌, ◌*◌, ◌^◌, ◌<◌, ◌≤◌, Bool, true, false, cond, List, [], ◌∷◌, ◌++◌, length, take, drop, refl, ap}
 use Rattle.list_laws.proofs.Kit.{sym, ◌∙◌, arith, subst, inl, inr, ◌⊎◌, cases_lt, nat_tests, get_or_append_left, get_or-append-add, length-take-le}
-use Rattle.std.specs.Prelude.{Contains}
+use Rattle.list_laws.proofs.Members.{each_append, each_from}
+use Rattle.std.specs.Prelude.{Contains, map}
+use Rattle.std.specs.List.{range_with_len}
 use Rattle.tensor_defs.specs.Prelude.{Number, neg, x1, Index, Tensor, axis_place, component_number, index_of, Each, Bracket, IsExchange, Respects}
 use Rattle.number_laws.proofs.NumberLaws.{num_neg-neg}
 use Rattle.tensor_laws.proofs.ComponentNumbers.{length-index_of, number-index_of}
@@ -13,8 +15,9 @@ use Rattle.tensor_defs.specs.declared.Sign.TheVariants.{Plus, Minus}
 use Rattle.sign_moves.specs.Prelude.{signed, IsKept}
 use Rattle.tensor_rank.specs.declared.exchanges.Exchange.{Exchange}
 use Rattle.tensor_rank.specs.Prelude.{digit_of, partner, exchanged, sign_of_exchange, exchange_moves, IsWithin, AllWithin, exchange_at, exchange_of}
-use Rattle.tensor_rank.specs.Prelude.{with_earlier, each_two, exchanges_of, nth, index_number_at, component_below_at, digit_list, index_of_digits}
-use Rattle.tensor_rank.proofs.ExchangeLaws.{partner_below}
+use Rattle.tensor_rank.specs.Prelude.{exchanges_of, neighbours, nth, index_number_at, component_below_at, digit_list, index_of_digits}
+use Rattle.tensor_rank.proofs.ExchangeLaws.{swap, partner_below}
+use Rattle.tensor_rank.proofs.NeighbourLaws.{IsListed, listed_left, listed_right, neighbour_listed, two_reached, kept_along}
 use Rattle.std.proofs.lemmas.List.{take-append-drop, length-append, length-drop, append_assoc}
 
 -- ---- parts of a list
@@ -37,9 +40,6 @@ in_fifth : (a b c d rest : Index) (p q : ℕ) → p ≡ length a + (length b + (
 in_fifth a b c d rest p q e = past a (b ++ (c ++ (d ++ rest))) p (length b + (length c + (length d + q))) e ∙ past b (c ++ (d ++ rest)) (length b + (length c + (length d + q))) (length c + (length d + q)) refl ∙ past c (d ++ rest) (length c + (length d + q)) (length d + q) refl ∙ past d rest (length d + q) q refl
 
 -- ---- where a place goes
-abbrev swap : ℕ → ℕ → ℕ → Bool → Exchange
-swap f s w n = record { first = f; second = s; width = w; negates = n }
-
 outside : (f s w p : ℕ) (n : Bool) → f + w ≤ s → (p < f) ⊎ (((f + w ≤ p) × (p < s)) ⊎ (s + w ≤ p)) → partner (swap f s w n) p ≡ p
 outside f s w p n h (inl l) = grind (arith, nat_tests)
 outside f s w p n h (inr (inl l)) = let l0 = l.0 in let l1 = l.1 in grind (arith, nat_tests)
@@ -185,70 +185,19 @@ can_exchange r b i j is ordered within h l =
       is_j = refl;
     }
 
--- ---- the list of the exchanges of brackets
-pub record IsListed (e : Exchange) (es : List Exchange) : Type 0 where
-  pub place : ℕ
-  pub within : place < length es
-  pub at : exchange_at es place ≡ e
-
-pub listed_left : {e : Exchange} {es : List Exchange} (fs : List Exchange) → IsListed e es → IsListed e (es ++ fs)
-listed_left {e} {es} fs h =
-    let long = length-append es fs in
-    let in_es = h.within in
-    record {
-      place = h.place;
-      within = omega (arith, long, in_es);
-      at = get_or_append_left es fs _ h.place h.within ∙ h.at;
-    }
-
-pub listed_right : {e : Exchange} (es : List Exchange) {fs : List Exchange} → IsListed e fs → IsListed e (es ++ fs)
-listed_right {e} es {fs} h =
-    let long = length-append es fs in
-    let in_fs = h.within in
-    record {
-      place = length es + h.place;
-      within = omega (arith, long, in_fs);
-      at = get_or-append-add es fs h.place _ ∙ h.at;
-    }
-
-listed_one : (e : Exchange) → IsListed e (e ∷ [])
-listed_one e = record { place = 0; within = omega arith; at = refl }
-
-earlier_listed : (b : Bracket) (j n i : ℕ) → i < n → IsListed (exchange_of b i j) (with_earlier b j n)
-earlier_listed b j zero i h = absurd (omega arith)
-earlier_listed b j (suc n) i h = elim (cases_lt i n) [
-  | inl l ↦ listed_left (exchange_of b n j ∷ []) (earlier_listed b j n i l)
-  | inr l ↦
-      let same : n ≡ i = omega arith in
-      listed_right (with_earlier b j n) (subst (λ m. IsListed (exchange_of b i j) (exchange_of b m j ∷ [])) (sym same) (listed_one (exchange_of b i j)))
-]
-
-pub two_listed : (b : Bracket) (n i j : ℕ) → i < j → j < n → IsListed (exchange_of b i j) (each_two b n)
-two_listed b zero i j h l = absurd (omega arith)
-two_listed b (suc n) i j h l = elim (cases_lt j n) [
-  | inl k ↦ listed_left (with_earlier b n n) (two_listed b n i j h k)
-  | inr k ↦
-      let same : n ≡ j = omega arith in
-      listed_right (each_two b n) (subst (λ m. IsListed (exchange_of b i j) (with_earlier b m m)) (sym same) (earlier_listed b j j i h))
-]
-
 -- what holds of each exchange of a list
-each_append : (P : Exchange → Type 0) (es fs : List Exchange) → Each P es → Each P fs → Each P (es ++ fs)
-each_append P [] fs p q = q
-each_append P (e ∷ es) fs p q = (p.0, each_append P es fs p.1 q)
-
 pub each_exchange : (P : Exchange → Type 0) (es : List Exchange) → Each P es → (k : ℕ) → k < length es → P (exchange_at es k)
 each_exchange P [] p k h = absurd (omega arith)
 each_exchange P (e ∷ es) p zero h = p.0
 each_exchange P (e ∷ es) p (suc k) h = each_exchange P es p.1 k (omega arith)
 
-each_earlier : (P : Exchange → Type 0) (b : Bracket) (j n : ℕ) → n ≤ j → ((i : ℕ) → i < j → P (exchange_of b i j)) → Each P (with_earlier b j n)
-each_earlier P b j zero l h = tt
-each_earlier P b j (suc n) l h = each_append P (with_earlier b j n) (exchange_of b n j ∷ []) (each_earlier P b j n (omega arith) h) (h n (omega arith), tt)
+each_along : (P : Exchange → Type 0) (b : Bracket) (i n : ℕ) → ((k : ℕ) → k < i + n → P (exchange_of b k (k + 1))) →
+    Each P (map (λ k. exchange_of b k (k + 1)) (range_with_len i n))
+each_along P b i zero h = tt
+each_along P b i (suc n) h = (h i (omega arith), each_along P b (i + 1) n (λ k l. h k (omega arith)))
 
-each_of_two : (P : Exchange → Type 0) (b : Bracket) (n : ℕ) → n ≤ b.count → ((i j : ℕ) → i < j → j < b.count → P (exchange_of b i j)) → Each P (each_two b n)
-each_of_two P b zero l h = tt
-each_of_two P b (suc n) l h = each_append P (each_two b n) (with_earlier b n n) (each_of_two P b n (omega arith) h) (each_earlier P b n n (omega arith) (λ i m. h i n m (omega arith)))
+each_neighbour : (P : Exchange → Type 0) (b : Bracket) → ((i : ℕ) → i + 1 < b.count → P (exchange_of b i (i + 1))) → Each P (neighbours b b.count)
+each_neighbour P b h = each_along P b 0 (b.count - 1) (λ k l. h k (omega arith))
 
 -- a tensor's components by number
 abbrev pub numbered : ℕ → Tensor → ℕ → Number
@@ -277,9 +226,13 @@ respected_keeps r t b i j ordered within inside h = record {
       cond_back b.negates (t is) (t can.list) told ∙ sym (signed_cond b.negates (t can.list)) ∙ ap (λ x. signed (sign_of_exchange (exchange_of b i j)) (t x)) (sym there);
 }
 
-kept_respects : (r : ℕ) (t : Tensor) (b : Bracket) → ((i j : ℕ) → i < j → j < b.count → Keeps r t (exchange_of b i j)) → Respects r t b
+kept_respects : (r : ℕ) (t : Tensor) (b : Bracket) →
+    ((i j : ℕ) → i < j → j < b.count → IsWithin r (exchange_of b i j) → Keeps r t (exchange_of b i j)) → Respects r t b
 kept_respects r t b h is js x =
-    let kept : numbered r t (component_number is) ≡ signed (sign_of_exchange (its_exchange x)) (numbered r t (exchanged r (its_exchange x) (component_number is))) = (h x.i x.j x.ordered x.within).keeps (component_number is) (component_below_at r is x.of_rank) in
+    let keeps : Keeps r t (its_exchange x) = h x.i x.j x.ordered x.within (its_within x) in
+    let kept : numbered r t (component_number is) ≡
+    signed (sign_of_exchange (its_exchange x)) (numbered r t (exchanged r (its_exchange x) (component_number is))) =
+    keeps.keeps (component_number is) (component_below_at r is x.of_rank) in
     let here : index_of r (component_number is) ≡ is = index_number_at r is x.of_rank in
     let there : index_of r (exchanged r (its_exchange x) (component_number is)) ≡ js = exchange_index x in
     let told : t is ≡ cond b.negates (neg (t js)) (t js) = ap t (sym here) ∙ kept ∙ signed_cond b.negates (numbered r t (exchanged r (its_exchange x) (component_number is))) ∙ ap (λ l. cond b.negates (neg (t l)) (t l)) there in
@@ -290,16 +243,10 @@ module _ (r : ℕ) (t : Tensor) where
   symmetric_each : (bs : List Bracket) → ((e : Exchange) → IsListed e (exchanges_of bs) → IsWithin r e) → Each (λ b. Respects r t b) bs → Each (λ e. Keeps r t e) (exchanges_of bs)
   symmetric_each [] inside h = tt
   symmetric_each (b ∷ bs) inside h =
-      each_append (λ e. Keeps r t e) (each_two b b.count) (exchanges_of bs)
-      (each_of_two (λ e. Keeps r t e) b b.count (omega arith) (λ i j l m. respected_keeps r t b i j l m (inside (exchange_of b i j) (listed_left (exchanges_of bs) (two_listed b b.count i j l m))) h.0))
-      (symmetric_each bs (λ e l. inside e (listed_right (each_two b b.count) l)) h.1)
-
-  each_symmetric : (bs : List Bracket) → ((e : Exchange) → IsListed e (exchanges_of bs) → Keeps r t e) → Each (λ b. Respects r t b) bs
-  each_symmetric [] h = tt
-  each_symmetric (b ∷ bs) h = (
-    kept_respects r t b (λ i j l m. h (exchange_of b i j) (listed_left (exchanges_of bs) (two_listed b b.count i j l m))),
-    each_symmetric bs (λ e l. h e (listed_right (each_two b b.count) l)),
-  )
+      each_append (λ e. Keeps r t e) (neighbours b b.count) (exchanges_of bs)
+      (each_neighbour (λ e. Keeps r t e) b (λ i l.
+      respected_keeps r t b i (i + 1) (omega arith) l (inside (exchange_of b i (i + 1)) (listed_left (exchanges_of bs) (neighbour_listed b b.count i l))) h.0))
+      (symmetric_each bs (λ e l. inside e (listed_right (neighbours b b.count) l)) h.1)
 
   pub symmetric_kept : (bs : List Bracket) → AllWithin r (exchanges_of bs) → Each (λ b. Respects r t b) bs → IsKept (3 ^ r) (exchange_moves r (exchanges_of bs)) (numbered r t)
   symmetric_kept bs inside h = record {
@@ -309,7 +256,9 @@ module _ (r : ℕ) (t : Tensor) where
   }
 
   pub kept_symmetric : (bs : List Bracket) → IsKept (3 ^ r) (exchange_moves r (exchanges_of bs)) (numbered r t) → Each (λ b. Respects r t b) bs
-  kept_symmetric bs h = each_symmetric bs (λ e l. subst (Keeps r t) l.at (record { keeps = λ c below. h.same l.place c l.within below }))
+  kept_symmetric bs h = each_from (λ b. Respects r t b) bs (λ b is. kept_respects r t b (λ i j l m w. record {
+    keeps = λ c below. kept_along r (exchanges_of bs) (numbered r t) h (two_reached r bs b is i j l m w c) below;
+  }))
 
 -- what an exchange of a list leads to is what the exchange of its number leads to
 pub exchange_lands : (r : ℕ) (b : Bracket) (i j c : ℕ) → c < 3 ^ r → (can : CanExchange r b i j (index_of r c)) → index_of r (exchanged r (exchange_of b i j) c) ≡ can.list
@@ -322,6 +271,6 @@ exchange_lands r b i j c below can =
 pub all_from : (bs : List Bracket) (P : Exchange → Type 0) → ((b : Bracket) → Contains bs b → (i j : ℕ) → i < j → j < b.count → P (exchange_of b i j)) → Each P (exchanges_of bs)
 all_from [] P h = tt
 all_from (b ∷ bs) P h =
-    each_append P (each_two b b.count) (exchanges_of bs)
-    (each_of_two P b b.count (omega arith) (λ i j l m. h b (0, omega arith, refl) i j l m))
+    each_append P (neighbours b b.count) (exchanges_of bs)
+    (each_neighbour P b (λ i l. h b (0, omega arith, refl) i (i + 1) (omega arith) l))
     (all_from bs P (λ x is i j l m. h x (suc is.0, (let small = is.1 in omega (arith, small)), is.2) i j l m))

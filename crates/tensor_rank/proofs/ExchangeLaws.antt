@@ -1,5 +1,6 @@
--- An exchange of two blocks is its own inverse.
-use Rattle.list_laws.proofs.Kit.{◌≡◌, ℕ, ◌+◌, ◌*◌, ◌<◌, ◌≤◌, ◌^◌, add-one, List, zero, suc, arith, lit≤, ap, sym, subst, ◌∙◌, refl, nat_tests}
+-- An exchange of two blocks is its own inverse, and is made of exchanges of blocks that lie closer.
+--   swap            an exchange by where the blocks begin, their width and its sign
+use Rattle.list_laws.proofs.Kit.{◌≡◌, ℕ, ◌+◌, ◌*◌, ◌<◌, ◌≤◌, ◌^◌, add-one, Bool, List, zero, suc, arith, lit≤, ap, sym, subst, ◌∙◌, refl, nat_tests}
 use Rattle.tensor_rank.specs.declared.exchanges.Exchange.{Exchange}
 use Rattle.tensor_rank.specs.Prelude.{digit_of, number_of, number_of-same, number_of-below, number_of-digits, digit_of-number, IsWithin, AllWithin}
 use Rattle.tensor_rank.specs.Prelude.{exchange_at, partner, exchanged, exchange_moves, sign_of_exchange}
@@ -11,6 +12,14 @@ partner_below r e h p below = grind (arith, nat_tests, h.apart, h.inside)
 
 pub partner-partner : (r : ℕ) (e : Exchange) → IsWithin r e → (p : ℕ) → partner e (partner e p) ≡ p
 partner-partner r e h p = grind (arith, nat_tests, h.apart, h.inside)
+
+abbrev pub swap : ℕ → ℕ → ℕ → Bool → Exchange
+swap f s w n = record { first = f; second = s; width = w; negates = n }
+
+-- the block at t follows the one at s: it and the block at f change places by way of that one
+partner_between : (f s t w : ℕ) (n : Bool) → f + w ≤ s → s + w ≡ t → (p : ℕ) →
+    partner (swap f t w n) p ≡ partner (swap s t w n) (partner (swap f s w n) (partner (swap s t w n) p))
+partner_between f s t w n apart touching p = grind (arith, nat_tests)
 
 pub digit_below : (r c p : ℕ) → digit_of r c p < 3
 digit_below r c p = omega arith
@@ -27,6 +36,24 @@ exchanged-exchanged r e h c below =
     digit_of-number r digits (λ q _. digit_below r c (partner e q)) (partner e p) (partner_below r e h p l)
     ∙ ap (digit_of r c) (partner-partner r e h p))
     ∙ number_of-digits r c below
+
+digit_exchanged : (r : ℕ) (e : Exchange) → IsWithin r e → (c p : ℕ) → p < r → digit_of r (exchanged r e c) p ≡ digit_of r c (partner e p)
+unfolding exchanged
+digit_exchanged r e h c p below = digit_of-number r (λ q. digit_of r c (partner e q)) (λ q _. digit_below r c (partner e q)) p below
+
+pub exchanged_between : (r f s t w : ℕ) (n : Bool) → f + w ≤ s → s + w ≡ t → t + w ≤ r → (c : ℕ) →
+    exchanged r (swap f t w n) c ≡ exchanged r (swap s t w n) (exchanged r (swap f s w n) (exchanged r (swap s t w n) c))
+unfolding exchanged
+exchanged_between r f s t w n apart touching inside c =
+    let e : Exchange = swap s t w n in
+    let x : Exchange = swap f s w n in
+    let within_e : IsWithin r e = record { apart = omega arith; inside = inside } in
+    let within_x : IsWithin r x = record { apart = apart; inside = omega arith } in
+    number_of-same r (λ p. digit_of r c (partner (swap f t w n) p)) (λ p. digit_of r (exchanged r x (exchanged r e c)) (partner e p)) (λ p below.
+    let one : partner e p < r = partner_below r e within_e p below in
+    ap (digit_of r c) (partner_between f s t w n apart touching p)
+    ∙ sym (digit_exchanged r x within_x (exchanged r e c) (partner e p) one
+    ∙ digit_exchanged r e within_e c (partner x (partner e p)) (partner_below r x within_x (partner e p) one)))
 
 pub exchanges_reversible : (n r : ℕ) (es : List Exchange) → n ≡ 3 ^ r → AllWithin r es → IsReversible n (exchange_moves r es)
 exchanges_reversible n r es size within = record {

@@ -2,10 +2,10 @@
 --   own_exchanges, own_moves, Lands, carried_join, ReachesIndex, carried_reaches ..
 --       steps along exchanges of a symbol are moves of component numbers
 --   entry_is, first_of_below, none_told, some_told    what is read of a table
-use Rattle.list_laws.proofs.Kit.{◌≡◌, ℕ, zero, suc, ◌^◌, ◌<◌, Bool, true, false, List, [], ◌∷◌, ◌++◌, length, get_or, refl, ap, sym, ◌∙◌, arith, subst}
+use Rattle.list_laws.proofs.Kit.{◌≡◌, ℕ, ◌^◌, ◌<◌, Bool, true, false, List, length, get_or, refl, ap, sym, ◌∙◌, subst}
 use Rattle.list_laws.proofs.Kit.{get_or_default, both_ways}
-use Rattle.std.specs.Prelude.{Contains, Some, None, ◌↔◌}
-use Rattle.tensor_defs.specs.Prelude.{JahnSymbol, Bracket, rank, body_brackets, HasSymmetry, Index, Tensor, component_number, index_of, Each}
+use Rattle.std.specs.Prelude.{Some, None, ◌↔◌}
+use Rattle.tensor_defs.specs.Prelude.{JahnSymbol, rank, body_brackets, HasSymmetry, Index, Tensor, component_number, index_of, Each}
 use Rattle.tensor_defs.specs.declared.Sign.{Sign}
 use Rattle.tensor_defs.specs.declared.Sign.TheVariants.{Plus}
 use Rattle.tensor_laws.proofs.ComponentNumbers.{length-index_of, number-index_of}
@@ -15,11 +15,14 @@ use Rattle.sign_moves.specs.Prelude.{IsForced, IsFirst, times}
 use Rattle.sign_moves.proofs.FirstLaws.{tables_tell}
 use Rattle.sign_moves.proofs.ClassLaws.{reached_first}
 use Rattle.sign_moves.proofs.JoinedLaws.{kept_again}
+use Rattle.sign_moves.proofs.MoveLaws.{reaches_join}
 use Rattle.tensor_rank.proofs.ExchangeLaws.{exchanged_below}
 use Rattle.tensor_rank.specs.declared.exchanges.Exchange.{Exchange}
 use Rattle.tensor_rank.specs.Prelude.{Carried, rests, steps, Exchanges, IsZeroAt, IsFirstCarried, TellsClass, exchange_moves, exchanged, index_number_at}
-use Rattle.tensor_rank.specs.Prelude.{Ordering, before_of, before_at, IsFirstBelow, exchange_of, each_two, exchanges_of, AllWithin, IsWithin}
-use Rattle.tensor_rank.proofs.ExchangeIndex.{numbered, symmetric_kept, kept_symmetric, length_exchanged, its_exchange, exchange_index, can_exchange, exchange_lands, all_from, each_exchange, IsListed, listed_left, listed_right, two_listed}
+use Rattle.tensor_rank.specs.Prelude.{Ordering, before_of, before_at, IsFirstBelow, exchanges_of, AllWithin, IsWithin, sign_of_exchange}
+use Rattle.tensor_rank.proofs.ExchangeIndex.{numbered, symmetric_kept, kept_symmetric, length_exchanged, its_exchange, its_within, exchange_index, can_exchange}
+use Rattle.tensor_rank.proofs.ExchangeIndex.{exchange_lands, all_from, each_exchange}
+use Rattle.tensor_rank.proofs.NeighbourLaws.{two_reached}
 
 -- ---- steps along exchanges of a symbol are moves of component numbers
 abbrev pub own_exchanges : JahnSymbol → List Exchange
@@ -27,14 +30,6 @@ own_exchanges j = exchanges_of (body_brackets j.factors 0)
 
 abbrev pub own_moves : JahnSymbol → Moves
 own_moves j = exchange_moves (rank j) (own_exchanges j)
-
-listed_of : (bs : List Bracket) (b : Bracket) → Contains bs b → (i k : ℕ) → i < k → k < b.count →
-    IsListed (exchange_of b i k) (exchanges_of bs)
-listed_of [] b m i k l h = absurd (omega (arith, m.1))
-listed_of (x ∷ bs) b (zero, m, s) i k l h =
-    subst (λ y. IsListed (exchange_of y i k) (each_two x x.count ++ exchanges_of bs)) s
-    (listed_left (exchanges_of bs) (two_listed x x.count i k l (subst (λ y. k < y.count) (sym s) h)))
-listed_of (x ∷ bs) b (suc n, m, s) i k l h = listed_right (each_two x x.count) (listed_of bs b (n, omega arith, s) i k l h)
 
 pub record Lands (j : JahnSymbol) (e : Exchange) : Type 0 where
   pub lands : IsWithin (rank j) e → (c : ℕ) → c < 3 ^ rank j →
@@ -57,27 +52,26 @@ pub record ReachesIndex (j : JahnSymbol) (c d : Index) : Type 0 where
   pub path : Reaches (own_moves j) (component_number c) (component_number d) sign
   pub of_rank : length d ≡ rank j
 
--- an exchange of a symbol is a move
+-- moves reach where an exchange of a symbol leads
 exchange_moved : (j : JahnSymbol) {c d : Index} → (x : Exchanges j c d) → length c ≡ rank j →
-    (k : ℕ) × (k < length (own_exchanges j)) × ((own_moves j).carried k (component_number c) ≡ component_number d)
+    Reaches (own_moves j) (component_number c) (component_number d) (sign_of_exchange (its_exchange x.exchange))
 exchange_moved j {c} {d} x l =
     let e : Exchange = its_exchange x.exchange in
-    let at : IsListed e (own_exchanges j) = listed_of (body_brackets j.factors 0) x.bracket x.listed x.exchange.i x.exchange.j x.exchange.ordered x.exchange.within in
+    let i = x.exchange in
+    let path : Reaches (own_moves j) (component_number c) (exchanged (rank j) e (component_number c)) (sign_of_exchange e) =
+    two_reached (rank j) (body_brackets j.factors 0) x.bracket x.listed i.i i.j i.ordered i.within (its_within i) (component_number c) in
     let lands : index_of (rank j) (exchanged (rank j) e (component_number c)) ≡ d = exchange_index x.exchange in
     let number : exchanged (rank j) e (component_number c) ≡ component_number d =
     sym (number-index_of (rank j) (exchanged (rank j) e (component_number c)) (exchanged_below (rank j) e (component_number c))) ∙ ap component_number lands in
-    (at.place, at.within, ap (λ y. exchanged (rank j) y (component_number c)) at.at ∙ number)
+    subst (λ y. Reaches (own_moves j) (component_number c) y (sign_of_exchange e)) number path
 
 pub carried_reaches : (j : JahnSymbol) {c d : Index} → Carried (Exchanges j) c d → length c ≡ rank j → ReachesIndex j c d
 carried_reaches j rests l = record { sign = Plus; path = stay; of_rank = l }
-carried_reaches j {c} {d} (steps {d = m} x rest) l =
+carried_reaches j (steps x rest) l =
     let there = carried_reaches j rest (length_exchanged x.exchange) in
-    let moved = exchange_moved j x l in
-    let path : Reaches (own_moves j) ((own_moves j).carried moved.0 (component_number c)) (component_number d) there.sign =
-    subst (λ y. Reaches (own_moves j) y (component_number d) there.sign) (sym moved.2) there.path in
     record {
-      sign = times ((own_moves j).sign moved.0 (component_number c)) there.sign;
-      path = move moved.0 moved.1 path refl;
+      sign = times (sign_of_exchange (its_exchange x.exchange)) there.sign;
+      path = reaches_join (exchange_moved j x l) there.path;
       of_rank = there.of_rank;
     }
 

@@ -1,13 +1,14 @@
 -- The exchanges of a symbol lie within its index places, and the code lists those of its brackets.
 --   append_none, body_same, whole_within    the exchanges of brackets
 use Rattle.std.proofs.Common.{◌≡◌, ℕ, ◌+◌, ◌-◌, ◌*◌, ◌<◌, ◌≤◌, Bool, false, List, [], ◌∷◌, ◌++◌, length, zero, suc, arith, ap, sym, ◌∙◌, refl, subst, inl, inr, length-append}
-use Rattle.std.proofs.Math.Nat.{suc-mul, mul-le-mul_right}
+use Rattle.std.proofs.Math.Nat.{add-mul, suc-mul, mul-le-mul_right}
 use Rattle.std.proofs.lemmas.Bool.{cases_lt}
 use Rattle.std.proofs.lemmas.List.{get_or_append_left, get_or-append_right, append_assoc}
+use Rattle.std.proofs.lemmas.List.FromFn.{get_or-map-range_with_len, length-map-range_with_len}
 use Rattle.tensor_defs.specs.Jahn.{Atom, V, Bracketed, Factor, Bracket, atom_rank, factors_rank, is_antisymmetric, repeated, brackets, body_brackets}
 use Rattle.tensor_rank.specs.declared.exchanges.Exchange.{Exchange}
 use Rattle.tensor_rank.specs.Within.{IsWithin, AllWithin, exchange_at}
-use Rattle.tensor_rank.specs.Symmetry.{bracket_at, exchange_of, with_earlier, each_two, at_each, atom_exchanges, body_exchanges, exchanges_of}
+use Rattle.tensor_rank.specs.Symmetry.{bracket_at, exchange_of, neighbours, at_each, atom_exchanges, body_exchanges, exchanges_of}
 
 within_none : (r : ℕ) → AllWithin r []
 within_none r = record { each = λ k h. absurd (omega arith) }
@@ -25,31 +26,20 @@ within_append r a b f g = record {
   ];
 }
 
-within_one : (r : ℕ) (e : Exchange) → IsWithin r e → AllWithin r (e ∷ [])
-within_one r e h = record {
-  each = λ k l.
-      let P : ℕ → Type 0 = λ i. IsWithin r (exchange_at (e ∷ []) i) in
-      let first : zero ≡ k = omega arith in
-      subst P first h;
+neighbours_within : (r s w : ℕ) (neg : Bool) (n : ℕ) → s + n * w ≤ r → AllWithin r (neighbours (bracket_at s w neg) n)
+neighbours_within r s w neg n room = record {
+  each = λ k h.
+      let with_next : ℕ → Exchange = λ i. exchange_of (bracket_at s w neg) i (i + 1) in
+      let long = length-map-range_with_len with_next 0 (n - 1) in
+      let few : (k + 2) * w ≤ n * w = mul-le-mul_right w (omega (arith, long, h)) in
+      let here : IsWithin r (with_next k) = record {
+        apart = omega (arith, add-mul k 1 w);
+        inside = omega (arith, room, few, add-mul k 1 w, add-mul k 2 w);
+      } in
+      let at : exchange_at (neighbours (bracket_at s w neg) n) k ≡ with_next k =
+      get_or-map-range_with_len with_next 0 (n - 1) k k _ (omega (arith, long, h)) (omega arith) in
+      subst (IsWithin r) (sym at) here;
 }
-
-earlier_within : (r s w : ℕ) (neg : Bool) (j : ℕ) → s + suc j * w ≤ r → (i : ℕ) → i ≤ j → AllWithin r (with_earlier (bracket_at s w neg) j i)
-earlier_within r s w neg j room zero h = within_none r
-earlier_within r s w neg j room (suc i) h =
-    let apart : suc i * w ≤ j * w = mul-le-mul_right w h in
-    let e : Exchange = record { first = s + i * w; second = s + j * w; width = w; negates = neg } in
-    let here : IsWithin r e = record {
-      apart = omega (arith, apart, suc-mul i w);
-      inside = omega (arith, room, suc-mul j w);
-    } in
-    within_append r (with_earlier (bracket_at s w neg) j i) (e ∷ []) (earlier_within r s w neg j room i (omega arith)) (within_one r e here)
-
-each_two_within : (r s w : ℕ) (neg : Bool) (n : ℕ) → s + n * w ≤ r → AllWithin r (each_two (bracket_at s w neg) n)
-each_two_within r s w neg zero room = within_none r
-each_two_within r s w neg (suc j) room =
-    within_append r (each_two (bracket_at s w neg) j) (with_earlier (bracket_at s w neg) j j)
-    (each_two_within r s w neg j (omega (arith, room, suc-mul j w)))
-    (earlier_within r s w neg j room j (omega arith))
 
 at_each_within : (r : ℕ) (f : ℕ → List Exchange) (s w : ℕ) → ((at : ℕ) → at + w ≤ r → AllWithin r (f at)) → (n : ℕ) → s + n * w ≤ r → AllWithin r (at_each f s w n)
 at_each_within r f s w each zero room = within_none r
@@ -61,8 +51,8 @@ at_each_within r f s w each (suc k) room =
 atom_within : (a : Atom) (r s : ℕ) → s + atom_rank a ≤ r → AllWithin r (atom_exchanges a s)
 atom_within V r s room = within_none r
 atom_within (Bracketed k a n) r s room =
-    within_append r (each_two (bracket_at s (atom_rank a) (is_antisymmetric k)) n) (at_each (atom_exchanges a) s (atom_rank a) n)
-    (each_two_within r s (atom_rank a) (is_antisymmetric k) n room)
+    within_append r (neighbours (bracket_at s (atom_rank a) (is_antisymmetric k)) n) (at_each (atom_exchanges a) s (atom_rank a) n)
+    (neighbours_within r s (atom_rank a) (is_antisymmetric k) n room)
     (at_each_within r (atom_exchanges a) s (atom_rank a) (λ at h. atom_within a r at h) n room)
 
 body_within : (fs : List Factor) (r s : ℕ) → s + factors_rank fs ≤ r → AllWithin r (body_exchanges fs s)
@@ -76,17 +66,8 @@ body_within (f ∷ fs) r s room =
 exchanges_append : (xs bs : List Bracket) → exchanges_of (xs ++ bs) ≡ exchanges_of xs ++ exchanges_of bs
 exchanges_append [] bs = refl
 exchanges_append (a ∷ xs) bs =
-    ap (λ x. each_two a a.count ++ x) (exchanges_append xs bs)
-    ∙ sym (append_assoc (each_two a a.count) (exchanges_of xs) (exchanges_of bs))
-
--- the number of blocks of a bracket doesn't change the exchange of two of them
-earlier_any : (b : Bracket) (j n : ℕ) → with_earlier (bracket_at b.start b.size b.negates) j n ≡ with_earlier b j n
-earlier_any b j zero = refl
-earlier_any b j (suc n) = ap (λ x. x ++ exchange_of b n j ∷ []) (earlier_any b j n)
-
-two_any : (b : Bracket) (n : ℕ) → each_two (bracket_at b.start b.size b.negates) n ≡ each_two b n
-two_any b zero = refl
-two_any b (suc n) = λ i. two_any b n i ++ earlier_any b n n i
+    ap (λ x. neighbours a a.count ++ x) (exchanges_append xs bs)
+    ∙ sym (append_assoc (neighbours a a.count) (exchanges_of xs) (exchanges_of bs))
 
 pub append_none : (es : List Exchange) → es ++ [] ≡ es
 append_none [] = refl
@@ -111,8 +92,8 @@ at_each_repeated f at same w s (suc n) =
 atom_same : (a : Atom) (s : ℕ) → atom_exchanges a s ≡ exchanges_of (brackets a s)
 atom_same V s = refl
 atom_same (Bracketed k a n) s =
-    λ i. two_any (record { start = s; count = n; size = atom_rank a; negates = is_antisymmetric k }) n i
-    ++ at_each_repeated (atom_exchanges a) (brackets a) (atom_same a) (atom_rank a) s n i
+    ap (λ x. neighbours (bracket_at s (atom_rank a) (is_antisymmetric k)) n ++ x)
+    (at_each_repeated (atom_exchanges a) (brackets a) (atom_same a) (atom_rank a) s n)
 
 pub body_same : (fs : List Factor) (s : ℕ) → body_exchanges fs s ≡ exchanges_of (body_brackets fs s)
 body_same [] s = refl

@@ -13,5 +13,5 @@ pub use Rattle.tensor_rank.specs.Orders.{spelled_before, total}
 pub use Rattle.tensor_rank.specs.ShapeValue.{ShapeValue}
 pub use Rattle.tensor_rank.specs.Shapes.{IsFirstBelow, IsShapeOf}
 pub use Rattle.tensor_rank.specs.StrictOrders.{orders_are_orders, orders_strict}
-pub use Rattle.tensor_rank.specs.Symmetry.{each_two, exchange_of, exchanges_of, with_earlier}
+pub use Rattle.tensor_rank.specs.Symmetry.{exchange_of, exchanges_of, neighbours}
 pub use Rattle.tensor_rank.specs.Within.{AllWithin, IsWithin, exchange_at}

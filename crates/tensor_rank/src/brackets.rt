@@ -1,37 +1,16 @@
-//! The exchanges of the blocks of brackets.
+//! The exchanges of neighbouring blocks of brackets.
 ghost use Rattle.std.specs.Prelude.{◌≡◌, ℕ, ◌+◌, ◌*◌, ◌<◌, ◌≤◌, ◌++◌, OnOk, List, [], false, true};
 ghost use Rattle.tensor_defs.specs.Jahn.{BracketKind, IsAtom, IsFactor, atom_rank, factors_rank, body_brackets, is_antisymmetric};
 ghost use Rattle.jahn_grammar.specs.Trees.{AreFactorTrees, atom_of, factor_of, factors_of};
-ghost use Rattle.tensor_rank.specs.Symmetry.{at_each, atom_exchanges, bracket_at, each_two, exchanges_of, with_earlier};
+ghost use Rattle.tensor_rank.specs.Symmetry.{at_each, atom_exchanges, bracket_at, exchanges_of, neighbours};
 
 use crate::exchanges::Exchange;
+use itertools::Itertools;
 use jahn_grammar::{Atom, Factor, Factors};
 use sign_moves::NoMemory;
 
-/// Appends the exchanges of one block of a bracket with each block before it.
-fn push_with_earlier(
-    out: &mut Vec<Exchange>,
-    start: u8,
-    width: u8,
-    negates: bool,
-    second: u8,
-) -> Result<(), NoMemory>
-    requires { start + second * width < 256 }
-    ensures { OnOk result (out.new.items ≡ out.old.items ++ with_earlier (bracket_at start width negates) second second) }
-{
-    for first in 0..second {
-        out.push(Exchange {
-            first: start + first * width,
-            second: start + second * width,
-            width,
-            negates,
-        })?;
-    }
-    Ok(())
-}
-
-/// Appends the exchanges of each two blocks of a bracket.
-fn push_each_two(
+/// Appends the exchanges of neighbouring blocks of a bracket.
+fn push_neighbours(
     out: &mut Vec<Exchange>,
     start: u8,
     width: u8,
@@ -39,10 +18,15 @@ fn push_each_two(
     count: u8,
 ) -> Result<(), NoMemory>
     requires { start + count * width < 256 }
-    ensures { OnOk result (out.new.items ≡ out.old.items ++ each_two (bracket_at start width negates) count) }
+    ensures { OnOk result (out.new.items ≡ out.old.items ++ neighbours (bracket_at start width negates) count) }
 {
-    for second in 0..count {
-        push_with_earlier(out, start, width, negates, second)?;
+    for (one, next) in (0..count).tuple_windows::<(u8, u8)>() {
+        out.push(Exchange {
+            first: start + one * width,
+            second: start + next * width,
+            width,
+            negates,
+        })?;
     }
     Ok(())
 }
@@ -74,10 +58,10 @@ fn push_bracket(
     requires powers { IsAtom (atom_of inner.now) }
     requires small { atom_rank (atom_of inner.now) ≤ 6 }
     requires room { start + count * atom_rank (atom_of inner.now) < 256 }
-    ensures { OnOk result (out.new.items ≡ out.old.items ++ (each_two (bracket_at start (atom_rank (atom_of inner.now)) negates) count ++ at_each (atom_exchanges (atom_of inner.now)) start (atom_rank (atom_of inner.now)) count)) }
+    ensures { OnOk result (out.new.items ≡ out.old.items ++ (neighbours (bracket_at start (atom_rank (atom_of inner.now)) negates) count ++ at_each (atom_exchanges (atom_of inner.now)) start (atom_rank (atom_of inner.now)) count)) }
 {
     let width = inner.rank() as u8;
-    push_each_two(out, start, width, negates, count)?;
+    push_neighbours(out, start, width, negates, count)?;
     for k in 0..count {
         push_atom(out, inner, start + k * width)?;
     }

@@ -115,7 +115,7 @@ impl<R: Rank> Shape<R> {
         self.flags
     }
 
-    /// The exchanges of each two blocks of the symbol's brackets.
+    /// The exchanges of neighbouring blocks of the symbol's brackets, which generate those of each two.
     pub fn exchanges(&self) -> &[Exchange]
         ensures exchanges { result.now ≡ self.now.exchanges }
         ensures within { AllWithin R.R result.now }
