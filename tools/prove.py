@@ -31,6 +31,8 @@ MEMORY_OF_A_JOB = 2 * 2**30
 MOST_JOBS = 4
 # a crate with fewer lines of code takes longer by several jobs, of which each reads the libraries below
 LINES_FOR_JOBS = 300
+# about how many milliseconds a crate takes: to read what is below, to link a program, and for each byte of its parts
+TO_READ, TO_LINK, TO_PROVE = 12_000, 60_000, {"src": 4.5, "specs": 0.2, "proofs": 0.1}
 PR_SET_PDEATHSIG = 1
 
 
@@ -72,6 +74,14 @@ def files_of(folder):
     return sorted(it for part in PARTS for it in (folder / part).rglob("*") if it.is_file())
 
 
+def time_of(name):
+    """About how long the check of a crate takes. Only the order of the crates goes by it."""
+    folder = TOP / "crates" / name
+    sizes = {part: sum(it.stat().st_size for it in (folder / part).rglob("*") if it.is_file()) for part in PARTS}
+    is_program = (folder / "src" / "main.rt").is_file()
+    return TO_READ + TO_LINK * is_program + sum(TO_PROVE[part] * size for part, size in sizes.items())
+
+
 def most_jobs(name):
     """How many jobs may check a crate."""
     lines = sum(file.read_bytes().count(b"\n") for file in (TOP / "crates" / name / "src").rglob("*.rt"))
@@ -110,15 +120,16 @@ def link_tree(source, to):
 
 
 def processors():
-    """How many jobs to run: one a processor, where memory holds them."""
+    """How many jobs to run, one a processor, where memory holds them; and whether it holds one more."""
     found = len(os.sched_getaffinity(0))
     with contextlib.suppress(OSError, ValueError):
         quota, period = pathlib.Path("/sys/fs/cgroup/cpu.max").read_text().split()
         found = min(found, max(int(quota) // int(period), 1))
     with contextlib.suppress(OSError, AttributeError):
         available = re.search(r"MemAvailable:\s+(\d+)", pathlib.Path("/proc/meminfo").read_text())
-        found = min(found, max(1024 * int(available[1]) // MEMORY_OF_A_JOB, 1))
-    return found
+        room = max(1024 * int(available[1]) // MEMORY_OF_A_JOB, 1)
+        return min(found, room), room > found
+    return found, False
 
 
 @contextlib.contextmanager
@@ -147,9 +158,8 @@ class Builder:
         self.order = closure(programs, crates)
         self.log = self.room / "log"
         self.begin, self.done, self.running, self.free = time.monotonic(), 0, {}, []
-        # how long a crate takes goes roughly by its code and proofs
-        self.weight = {it: sum(file.stat().st_size for file in files_of(TOP / "crates" / it)) for it in self.order}
-        # a crate and the heaviest chain of crates above it
+        self.weight = {it: time_of(it) for it in self.order}
+        # a crate and the longest chain of crates above it
         self.chain = dict(self.weight)
         for name in reversed(self.order):
             for below in crates[name][1]:
@@ -247,19 +257,21 @@ class Builder:
         minutes = (time.monotonic() - self.begin) / 60
         say(f"proved {name} ({self.done} of {len(self.order)}, {minutes:.1f} minutes)")
 
-    def start(self, pool, left, given, tasks, lanes):
+    def start(self, pool, left, given, tasks, lanes, more):
         """Starts the crates that can be proved now, those with the longest chain first. Processors that no crate waits for go
-        to those that start; a crate whose chain is long beside all that is left gets two though others wait."""
+        to those that start; a crate whose chain is long beside all that is left gets two jobs though others wait, of which one
+        may be more than there are processors."""
         ready = [it for it in left if all(below in given for below in self.crates[it][1])]
         ready.sort(key=lambda it: -self.chain[it])
         idle = lanes - sum(jobs for _, _, jobs in tasks.values())
         work = sum(self.weight[it] for it in self.order if it not in given)
         for at, name in enumerate(ready):
-            if idle <= 0:
+            room = idle + (more and self.chain[name] * lanes > 2 * work)
+            if room <= 0:
                 return
             jobs = max(1, idle // (len(ready) - at))
             if self.chain[name] * lanes > 2 * work:
-                jobs = max(jobs, min(2, idle))
+                jobs = max(jobs, min(2, room))
             jobs = min(jobs, most_jobs(name))
             lane = self.lane()
             left.remove(name)
@@ -268,13 +280,13 @@ class Builder:
 
     def build(self):
         self.prepare()
-        lanes = processors()
+        lanes, more = processors()
         left, given, tasks, failed = list(self.order), set(), {}, []
         with ThreadPoolExecutor(lanes) as pool:
             try:
                 while left or tasks:
                     if not failed:
-                        self.start(pool, left, given, tasks, lanes)
+                        self.start(pool, left, given, tasks, lanes, more)
                     if not tasks:
                         break
                     for ended in wait(tasks, return_when=FIRST_COMPLETED).done:

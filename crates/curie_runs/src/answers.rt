@@ -15,6 +15,7 @@ ghost use Rattle.curie_runs.specs.CurieTexts.{curie_text, table_answer};
 use crate::memory::NoMemory;
 use crate::names::curie_text;
 use answer_writers::append_to;
+use form_lines::write_table;
 use jahn_grammar::{Jahn, write_jahn};
 use limiting_groups::{Curie, SolveFault, curie_form};
 use reduced_form::Form;
@@ -53,7 +54,7 @@ fn text_of_form<R: Rank>(
 {
     let mut out = Vec::new(alloc);
     write_header(alloc, group, jahn, form.free_count(), R::LEN, &mut out)?;
-    form.write_table(&mut out)?;
+    write_table(form, &mut out)?;
     Ok(out)
 }
 

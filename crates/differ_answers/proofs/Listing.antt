@@ -14,7 +14,7 @@ use Rattle.tensor_laws.proofs.Prelude.{length-index_of, number-index_of, same_ba
 use Rattle.tensor_rank.specs.IndexLaws.{component_below_at, index_number_at}
 use Rattle.tensor_rank.proofs.OrderLaws.{index_order_at}
 use Rattle.text_defs.specs.Prelude.{AreStateTexts, IsStateText, state_text}
-use Rattle.table_answers.proofs.SetLaws.{same_admitted}
+use Rattle.reduced_form.proofs.SetLaws.{same_admitted}
 use Rattle.state_marks.specs.Told.{StateValue, TellsState, mark_at, row_of}
 use Rattle.differ_answers.specs.Texts.{marked_below, marked_indices}
 

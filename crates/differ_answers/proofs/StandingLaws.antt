@@ -12,7 +12,8 @@ use Rattle.std.proofs.lemmas.List.{append-nil, drop_at, take_at}
 use Rattle.list_laws.proofs.Members.{each_map}
 use Rattle.tensor_defs.specs.Prelude.{Each, Operation, Table, Marks}
 use Rattle.text_defs.specs.AnswerTexts.{component_name, equation, free_names, line_of, named_roots, state_text}
-use Rattle.reduced_form.specs.Prelude.{FormValue, form_table, lines_upto}
+use Rattle.reduced_form.specs.Prelude.{FormValue, form_table}
+use Rattle.form_lines.specs.Texts.{lines_upto}
 use Rattle.answer_writers.specs.Rows.{IsLonger}
 use Rattle.state_marks.specs.Alike.{AreAlike}
 use Rattle.state_marks.specs.Told.{StateValue, row_of}

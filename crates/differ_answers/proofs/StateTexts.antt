@@ -14,7 +14,7 @@ use Rattle.reduced_form.specs.Forms.{FormValue, form_table}
 use Rattle.text_defs.specs.Prelude.{AreStateTexts, IsDifferText, differ_header, state_text}
 use Rattle.magnetic_groups.specs.Sets.{In, IsGroup}
 use Rattle.state_answers.proofs.SameSets.{states_same}
-use Rattle.table_answers.proofs.SetLaws.{fits_admitted, grows_same, same_admitted}
+use Rattle.reduced_form.proofs.SetLaws.{fits_admitted, grows_same, same_admitted}
 use Rattle.state_marks.specs.Told.{AreStateRows, AreTold, MarksGrow, StateValue, row_at, row_of}
 use Rattle.state_marks.proofs.MarkLaws.{rows_calm, state_tells}
 use Rattle.state_marks.specs.declared.rows.RootTerm.{RootTerm}

@@ -10,8 +10,9 @@ use Rattle.std.proofs.lemmas.List.{append-nil}
 use Rattle.tensor_defs.specs.Prelude.{Each, Index, index_of}
 use Rattle.tensor_laws.proofs.ComponentNumbers.{number-index_of}
 use Rattle.text_defs.specs.Prelude.{component_name, equation, free_names, line_of, named_roots, or_none, state_text, NamedTerm, spaced, sum_text, term_text}
-use Rattle.reduced_form.specs.Prelude.{FormValue, form_table, free_at, lines_upto, placed, sum_from}
-use Rattle.reduced_form.proofs.TextLaws.{sum_whole, name_read}
+use Rattle.reduced_form.specs.Prelude.{FormValue, form_table, free_at}
+use Rattle.form_lines.specs.Texts.{lines_upto, placed, sum_from}
+use Rattle.form_lines.proofs.TextLaws.{sum_whole, name_read}
 use Rattle.state_marks.specs.declared.rows.RootTerm.{RootTerm}
 use Rattle.state_marks.specs.Sums.{root_term_of}
 use Rattle.state_marks.specs.Told.{StateValue, mark_at, row_at, row_of}

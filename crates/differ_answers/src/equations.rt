@@ -4,14 +4,15 @@ ghost use Rattle.tensor_defs.specs.Lists.{Each};
 ghost use Rattle.tensor_defs.specs.Tensor.{index_of};
 ghost use Rattle.text_defs.specs.AnswerTexts.{component_name, equation};
 ghost use Rattle.text_defs.specs.NumberTexts.{sum_text};
-ghost use Rattle.reduced_form.specs.Texts.{placed, takes_plus};
+ghost use Rattle.form_lines.specs.Texts.{placed, takes_plus};
 ghost use Rattle.answer_writers.specs.Rows.{IsLonger};
 ghost use Rattle.differ_answers.specs.Texts.{named_terms};
 
 use crate::faults::NoMemory;
 use crate::terms::term_of;
 use answer_writers::append_to;
-use reduced_form::{Form, name_bytes};
+use form_lines::name_bytes;
+use reduced_form::Form;
 use state_marks::RootTerm;
 use std::alloc::Global;
 use tensor_rank::{Comp, Rank};

@@ -12,10 +12,11 @@ ghost use Rattle.differ_answers.specs.Texts.{gap};
 
 use crate::faults::NoMemory;
 use answer_writers::append_to;
+use form_lines::name_bytes;
 use group_symbol::{SymbolTree, write_group};
 use itoa::Buffer;
 use jahn_grammar::{Jahn, write_jahn};
-use reduced_form::{Form, name_bytes};
+use reduced_form::Form;
 use tensor_rank::Rank;
 
 /// Appends a number.

@@ -7,7 +7,8 @@ ghost use Rattle.smallvec.specs.SmallVec.{HasRoomFor, small_vec_len};
 ghost use Rattle.reduced_form.specs.Forms.{free_at};
 
 use exact_frac::append;
-use reduced_form::{Form, name_bytes};
+use form_lines::name_bytes;
+use reduced_form::Form;
 use root3_num::{Root3, is_negative_part, is_one_part, is_zero_part, size_of_part};
 use smallvec::SmallVec;
 use state_marks::RootTerm;

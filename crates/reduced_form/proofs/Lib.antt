@@ -5,5 +5,4 @@ pub mod Systems
 pub mod Numbering
 pub mod FreeLaws
 pub mod FormLaws
-pub mod TextLaws
-mod NameLaws
+pub mod SetLaws

@@ -3,5 +3,3 @@ pub use Rattle.reduced_form.specs.Eliminated.{AreNumbers, ArePivots, AreSparse, 
 pub use Rattle.reduced_form.specs.Eliminated.{free_places, number_at, pivot_at, signed_fraction, told_by, whole_of, wholes}
 pub use Rattle.reduced_form.specs.Forms.{ArePlaces, FormValue, IsFreeUpTo, form_table, free_at, row_at, term_of, unit_fraction}
 pub use Rattle.reduced_form.specs.Solving.{FitsSet, IsSolution, line_at, lines_at}
-pub use Rattle.reduced_form.specs.Texts.{named_terms, placed, sum_from}
-unfoldable pub use Rattle.reduced_form.specs.Texts.{lines_upto}

@@ -1,9 +1,11 @@
 //! Tables of free components and of the terms of every component.
 ghost use Rattle.std.specs.Prelude.{◌≡◌, ◌≤◌, ◌<◌, ℕ, length, map};
+ghost use Rattle.tensor_defs.specs.Lists.{Each};
 ghost use Rattle.reduced_form.specs.Forms.{IsForm, free_at, row_at};
 
 use exact_frac::Frac;
 use smallvec::SmallVec;
+use std::alloc::Global;
 use std::marker::{Model, PhantomData};
 use tensor_rank::{Comp, Rank};
 
@@ -43,10 +45,16 @@ impl<R: Rank> Model for Form<R> {
 }
 
 impl<R: Rank> Form<R> {
-    /// The number of free components.
+    /// What the table's memory comes from.
+    pub fn alloc(&self) -> Global {
+        *self.free.allocator()
+    }
+
+    /// The number of free components, each of which is one of rank R.
     pub fn free_count(&self) -> usize
         ensures is { result ≡ length self.now.free }
         ensures few { result ≤ R.LEN }
+        ensures below { (k : ℕ) → k < length self.now.free → free_at self.now.free k < R.LEN }
     {
         self.free.len()
     }
@@ -59,9 +67,10 @@ impl<R: Rank> Form<R> {
         Comp::at(self.free[place] as usize)
     }
 
-    /// The terms of a component, by rising places.
+    /// The terms of a component, by rising places, each of which is one of a free component.
     pub fn row(&self, c: Comp<R>) -> &[Term]
-        ensures { result.now ≡ row_at self.now.rows c }
+        ensures is { result.now ≡ row_at self.now.rows c }
+        ensures named { Each (λ t. t.free < length self.now.free) result.now }
     {
         self.rows[c.number() as usize].as_slice()
     }

@@ -11,13 +11,8 @@ mod rows;
 mod solving;
 mod sparse;
 mod told;
-mod writing;
 
 pub use eliminating::eliminate;
 pub use forms::{Form, Term};
 pub use memory::{NoMemory, SolveFault};
 pub use solving::solve;
-pub use writing::{append_to, name_bytes, push_factor, unit_sign, write_term};
-
-#[cfg(test)]
-mod tests;

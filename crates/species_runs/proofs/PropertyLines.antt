@@ -7,7 +7,7 @@ use Rattle.std.specs.Prelude.{Some, slice_get}
 use Rattle.list_laws.proofs.Members.{each_get}
 use Rattle.tensor_defs.specs.Prelude.{SameSet, IsInvariant, JahnSymbol, Operation, GroupSymbol, Tensor}
 use Rattle.tensor_laws.proofs.Sets.{same_back}
-use Rattle.table_answers.proofs.SetLaws.{same_admitted}
+use Rattle.reduced_form.proofs.SetLaws.{same_admitted}
 use Rattle.species.specs.declared.kinds.Kind.{Kind}
 use Rattle.species.specs.declared.kinds.Kind.TheVariants.{Full, Partial, Non}
 use Rattle.species.specs.declared.properties.Property.{Property}

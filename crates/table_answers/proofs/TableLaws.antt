@@ -10,7 +10,7 @@ use Rattle.tensor_rank.proofs.ExchangeIndex.{length_exchanged}
 use Rattle.reduced_form.specs.declared.forms.Term.{Term}
 use Rattle.reduced_form.specs.Forms.{FormValue, IsForm, form_table, row_at, term_of}
 use Rattle.reduced_form.proofs.FormLaws.{rows_same}
-use Rattle.table_answers.proofs.SetLaws.{fits_admitted}
+use Rattle.reduced_form.proofs.SetLaws.{fits_admitted}
 
 -- ---- component lists that agree are invariant together
 respects_agreed : (r : ℕ) (t u : Tensor) (b : Bracket) → Agree r t u → Respects r t b → Respects r u b

@@ -22,6 +22,7 @@ use crate::memory::NoMemory;
 use crate::solving::index_table;
 use answer_writers::append_to;
 use exact_frac::append;
+use form_lines::write_table;
 use group_symbol::{SymbolTree, write_group};
 use itoa::Buffer;
 use jahn_grammar::{Jahn, write_jahn};
@@ -80,7 +81,7 @@ fn write_lines<R: Rank>(
     ensures capacity { vec_capacity out.old ≤ vec_capacity out.new }
 {
     write_header(alloc, tree, jahn, form.free_count(), R::LEN, out)?;
-    form.write_table(out)?;
+    write_table(form, out)?;
     Ok(())
 }
 

@@ -6,7 +6,7 @@ use Rattle.std.specs.Prelude.{Result, Ok, Err, IfErr}
 use Rattle.tensor_defs.specs.declared.Weights.{Weights}
 use Rattle.tensor_defs.specs.Prelude.{AllOf, IsPlain, SameSet, JahnSymbol, Operation, block_before, HasBlocks, HasVoigtShape, IsVoigtTable, VoigtGrows}
 use Rattle.tensor_defs.specs.Prelude.{VoigtTable}
-use Rattle.table_answers.proofs.SetLaws.{fits_admitted, grows_same, same_admitted}
+use Rattle.reduced_form.proofs.SetLaws.{fits_admitted, grows_same, same_admitted}
 use Rattle.voigt_table.specs.declared.memory.VoigtFault.{VoigtFault}
 use Rattle.voigt_table.specs.declared.memory.VoigtFault.TheVariants.{Shape, TooLarge, NoMemory}
 use Rattle.voigt_table.specs.Tables.{TellsVoigt}

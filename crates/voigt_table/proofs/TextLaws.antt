@@ -15,8 +15,9 @@ use Rattle.tensor_defs.specs.declared.Sign.TheVariants.{Plus, Minus}
 use Rattle.tensor_defs.specs.Prelude.{Each, same_numbers_in, Fraction, VoigtEntry, entries}
 use Rattle.text_defs.specs.Prelude.{entry_line, entry_name, has_entry, named, rational, row_text, NamedTerm, sum_text, term_text}
 use Rattle.reduced_form.specs.declared.forms.Term.{Term}
-use Rattle.reduced_form.specs.Prelude.{row_at, term_of, unit_fraction, lines_upto, placed, sum_from}
-use Rattle.reduced_form.proofs.TextLaws.{IsMarkedUpTo, signed_name, sum_whole}
+use Rattle.reduced_form.specs.Prelude.{row_at, term_of, unit_fraction}
+use Rattle.form_lines.specs.Texts.{lines_upto, placed, sum_from}
+use Rattle.form_lines.proofs.TextLaws.{IsMarkedUpTo, signed_name, sum_whole}
 use Rattle.list_laws.proofs.Tests.{same_numbers_own, same_numbers_told}
 use Rattle.text_laws.proofs.Joins.{equation_joined, free_joined}
 use Rattle.voigt_table.specs.declared.entries.Blocks.{Blocks}

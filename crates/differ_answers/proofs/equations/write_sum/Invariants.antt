@@ -1,6 +1,6 @@
 use Rattle.std.proofs.Common.{◌≡◌, ◌++◌, ◌≤◌, vec_capacity}
 use Rattle.std.specs.Prelude.{take}
-use Rattle.reduced_form.specs.Texts.{sum_from}
+use Rattle.form_lines.specs.Texts.{sum_from}
 use Rattle.differ_answers.specs.Texts.{named_terms}
 use Rattle.differ_answers.proofs.equations.write_sum.Given as goal
 

@@ -1,8 +1,8 @@
 use Rattle.list_laws.proofs.Kit.{◌≡◌, ◌++◌, ◌∷◌, [], ◌∙◌, List, ℕ, ap, length, arith, decimal}
 use Rattle.std.specs.Prelude.{codes}
 use Rattle.text_defs.specs.AnswerTexts.{line_of}
-use Rattle.reduced_form.specs.Texts.{lines_upto}
-use Rattle.reduced_form.proofs.TextLaws.{lines_grown, lines_start}
+use Rattle.form_lines.specs.Texts.{lines_upto}
+use Rattle.form_lines.proofs.TextLaws.{lines_grown, lines_start}
 use Rattle.differ_answers.specs.Texts.{marked_text}
 use Rattle.differ_answers.proofs.StandingLaws.{lines_here}
 use Rattle.differ_answers.proofs.TextLaws.{state_written}

@@ -1,5 +1,5 @@
 use Rattle.std.proofs.Common.{◌≡◌, ◌++◌, ◌≤◌, vec_capacity}
-use Rattle.reduced_form.specs.Texts.{lines_upto}
+use Rattle.form_lines.specs.Texts.{lines_upto}
 use Rattle.differ_answers.specs.Texts.{marked_text}
 use Rattle.differ_answers.proofs.states.write_state.Given as goal
 

@@ -26,7 +26,7 @@ add_part-requires-clause-within g c =
     let small = number_small (marks_of c.args.flags) c.args.op.now r (form_table r f) (index_of r c.args.to) (length-index_of r c.args.to)
     c.as_slice-parts.result.now c.loop-place.place (omega (arith, c.loop-place-test.true)) c.loop-place.sums c.loop-place.invariant in
     let long : length f.free ≡ length c.loop-place.sums = sym (free_length r f) ∙ sym c.loop-place.invariant.len in
-    rw c.row-row.ensures (subst (λ n. Each (λ t. t.free < n) (row_at f.rows c.at.result)) long
+    rw c.row-row.ensures.is (subst (λ n. Each (λ t. t.free < n) (row_at f.rows c.at.result)) long
     (row_within r f c.requires.formed c.at.result (subst (λ n. n < 3 ^ r) (sym c.at.ensures) small)))
 
 pub add_part-requires-clause-rising : goal.add_part-requires-clause-rising
@@ -35,7 +35,7 @@ add_part-requires-clause-rising g c =
     let f = c.args.form.now in
     let small = number_small (marks_of c.args.flags) c.args.op.now r (form_table r f) (index_of r c.args.to) (length-index_of r c.args.to)
     c.as_slice-parts.result.now c.loop-place.place (omega (arith, c.loop-place-test.true)) c.loop-place.sums c.loop-place.invariant in
-    rw c.row-row.ensures (row_rising r f c.requires.formed c.at.result (subst (λ n. n < 3 ^ r) (sym c.at.ensures) small))
+    rw c.row-row.ensures.is (row_rising r f c.requires.formed c.at.result (subst (λ n. n < 3 ^ r) (sym c.at.ensures) small))
 
 pub returns-in_err-add_part-clause-grows : goal.returns-in_err-add_part-clause-grows
 returns-in_err-add_part-clause-grows g c =
@@ -52,7 +52,7 @@ returns-in_err-add_part-clause-grows g c =
     let small = number_small m op r a i long ps k h c.loop-place.sums c.loop-place.invariant in
     grown_told c.from_residual.result _
     (parts-grow m op r a i long ps k h c.loop-place.sums c.loop-place.invariant c.row-row.result.now
-    (λ q. row_told r f c.row-row.result.now c.at.result _ q c.row-row.ensures c.at.ensures small) c.sign_of-sign.result c.sign_of-sign.ensures c.in_err-add_part.ensures.grows)
+    (λ q. row_told r f c.row-row.result.now c.at.result _ q c.row-row.ensures.is c.at.ensures small) c.sign_of-sign.result c.sign_of-sign.ensures c.in_err-add_part.ensures.grows)
 
 pub loop-place-preserved : goal.loop-place-preserved
 loop-place-preserved g c =
@@ -68,7 +68,7 @@ loop-place-preserved g c =
     let h : k < length ps = omega (arith, c.loop-place-test.true) in
     let small = number_small m op r a i long ps k h c.loop-place.sums c.loop-place.invariant in
     parts-more m op r a i long ps k h c.loop-place.sums c.loop-place.invariant c.row-row.result.now
-    (λ q. row_told r f c.row-row.result.now c.at.result _ q c.row-row.ensures c.at.ensures small) c.sign_of-sign.result c.sign_of-sign.ensures c.add_part.new.sums
+    (λ q. row_told r f c.row-row.result.now c.at.result _ q c.row-row.ensures.is c.at.ensures small) c.sign_of-sign.result c.sign_of-sign.ensures c.add_part.new.sums
     c.in_ok-add_part.ensures.ok
 
 pub returns-clause-ok : goal.returns-clause-ok

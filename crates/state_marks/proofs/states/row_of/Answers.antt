@@ -24,7 +24,7 @@ differs-marked-requires-clause-within g c =
     let n = c.at-to.result in
     let below : n < 3 ^ r = subst (λ k. n < k) g.R.Rank.power (omega (arith, c.at-to.ensures, c.requires.number)) in
     let long : length f.free ≡ length c.add_parts.new.sums = sym (free_length r f) ∙ sym c.in_ok-add_parts.ensures.ok.len in
-    subst (λ (ts : List Term). Each (λ t. t.free < length c.add_parts.new.sums) ts) (sym c.row.ensures)
+    subst (λ (ts : List Term). Each (λ t. t.free < length c.add_parts.new.sums) ts) (sym c.row.ensures.is)
     (subst (λ k. Each (λ (t : Term). t.free < k) (row_at f.rows n)) long (row_within r f c.requires.formed n below))
 
 pub differs-marked-requires-clause-rising : goal.differs-marked-requires-clause-rising
@@ -33,7 +33,7 @@ differs-marked-requires-clause-rising g c =
     let f = c.args.form.now in
     let n = c.at-to.result in
     let below : n < 3 ^ r = subst (λ k. n < k) g.R.Rank.power (omega (arith, c.at-to.ensures, c.requires.number)) in
-    subst (λ (ts : List Term). IsRising places_rise (map term_of ts)) (sym c.row.ensures) (row_rising r f c.requires.formed n below)
+    subst (λ (ts : List Term). IsRising places_rise (map term_of ts)) (sym c.row.ensures.is) (row_rising r f c.requires.formed n below)
 
 pub returns-clause-ok : goal.returns-clause-ok
 returns-clause-ok g c =
@@ -46,7 +46,7 @@ returns-clause-ok g c =
     let row = c.in_ok-terms.terms.items in
     subst (λ k. IsRow m c.args.op.now r (form_table r f) (index_of r k) row c.differs-marked.result) c.at-to.ensures
     (row_is m c.args.op.now r f n below sums row c.in_ok-add_parts.ensures.ok c.in_ok-terms.ensures c.differs-marked.result
-    (subst (λ (ts : List Term). TellsBoth sums ts c.differs-marked.result) c.row.ensures c.differs-marked.ensures))
+    (subst (λ (ts : List Term). TellsBoth sums ts c.differs-marked.result) c.row.ensures.is c.differs-marked.ensures))
 
 pub returns-in_err-add_parts-clause-grows : goal.returns-in_err-add_parts-clause-grows
 returns-in_err-add_parts-clause-grows g c =

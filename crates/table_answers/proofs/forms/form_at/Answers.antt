@@ -4,7 +4,7 @@ use Rattle.tensor_laws.proofs.Sets.{same_back}
 use Rattle.jahn_grammar.specs.Symbols.{symbol_of}
 use Rattle.magnetic_groups.specs.Sets.{In}
 use Rattle.reduced_form.specs.Forms.{form_table}
-use Rattle.table_answers.proofs.SetLaws.{fits_admitted, grows_same, same_admitted}
+use Rattle.reduced_form.proofs.SetLaws.{fits_admitted, grows_same, same_admitted}
 use Rattle.table_answers.proofs.Told.{ok_always, table_grows}
 use Rattle.table_answers.proofs.forms.form_at.Goals as goal
 

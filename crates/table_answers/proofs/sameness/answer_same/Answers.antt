@@ -4,7 +4,7 @@ use Rattle.tensor_defs.specs.Prelude.{Grows, InGroup, AdmitSame, index_before}
 use Rattle.text_defs.specs.AnswerTexts.{same_text}
 use Rattle.jahn_grammar.specs.Symbols.{symbol_of}
 use Rattle.magnetic_groups.specs.Sets.{In}
-use Rattle.table_answers.proofs.SetLaws.{admitted_same, grows_same}
+use Rattle.reduced_form.proofs.SetLaws.{admitted_same, grows_same}
 use Rattle.table_answers.proofs.Told.{ok_always, same_grows, written_as}
 use Rattle.table_answers.proofs.sameness.answer_same.Goals as goal
 

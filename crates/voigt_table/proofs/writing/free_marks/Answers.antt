@@ -1,5 +1,5 @@
 use Rattle.std.proofs.Common.{◌≡◌, ℕ, zero, suc, false, arith, length, get_or, map, replicate, refl, ap, sym, subst}
-use Rattle.reduced_form.proofs.TextLaws.{IsMarkedUpTo, marks_start}
+use Rattle.form_lines.proofs.TextLaws.{IsMarkedUpTo, marks_start}
 use Rattle.voigt_table.specs.Blocks.{sizes_of}
 use Rattle.voigt_table.specs.Tables.{IsVoigtValue, VoigtValue}
 use Rattle.voigt_table.proofs.KeptLaws.{kept_whole}

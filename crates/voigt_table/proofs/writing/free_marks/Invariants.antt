@@ -1,4 +1,4 @@
-use Rattle.reduced_form.proofs.TextLaws.{IsMarkedUpTo}
+use Rattle.form_lines.proofs.TextLaws.{IsMarkedUpTo}
 use Rattle.voigt_table.proofs.writing.free_marks.Given as goal
 
 abbrev pub invariant-loop-place : goal.invariant-loop-place

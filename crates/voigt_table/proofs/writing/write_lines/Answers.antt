@@ -2,8 +2,8 @@ use Rattle.list_laws.proofs.Kit.{◌≡◌, ℕ, List, arith, ap, sym, ◌∙◌
 use Rattle.std.specs.Prelude.{◌++◌}
 use Rattle.tensor_defs.specs.Voigt.{VoigtEntry, entries}
 use Rattle.text_defs.specs.AnswerTexts.{entry_line}
-use Rattle.reduced_form.specs.Texts.{lines_upto}
-use Rattle.reduced_form.proofs.TextLaws.{grown_twice, lines_grown, lines_start}
+use Rattle.form_lines.specs.Texts.{lines_upto}
+use Rattle.form_lines.proofs.TextLaws.{grown_twice, lines_grown, lines_start}
 use Rattle.voigt_table.specs.Blocks.{entry_at, entry_count, sizes_of}
 use Rattle.voigt_table.specs.Tables.{voigt_of}
 use Rattle.voigt_table.proofs.TextLaws.{lines_listed}

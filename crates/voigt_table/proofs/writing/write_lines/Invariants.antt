@@ -1,6 +1,6 @@
 use Rattle.std.proofs.Common.{◌≡◌, ◌++◌, ◌≤◌, vec_capacity}
 use Rattle.text_defs.specs.AnswerTexts.{entry_line}
-use Rattle.reduced_form.specs.Texts.{lines_upto}
+use Rattle.form_lines.specs.Texts.{lines_upto}
 use Rattle.voigt_table.specs.Blocks.{entry_at}
 use Rattle.voigt_table.specs.Tables.{voigt_of}
 use Rattle.voigt_table.proofs.writing.write_lines.Given as goal

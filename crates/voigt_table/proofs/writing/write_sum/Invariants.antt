@@ -1,6 +1,6 @@
 use Rattle.std.proofs.Common.{◌≡◌, ◌++◌, ◌≤◌, vec_capacity}
 use Rattle.std.specs.Prelude.{take}
-use Rattle.reduced_form.specs.Texts.{sum_from}
+use Rattle.form_lines.specs.Texts.{sum_from}
 use Rattle.voigt_table.specs.Texts.{named_entries}
 use Rattle.voigt_table.proofs.writing.write_sum.Given as goal
 
