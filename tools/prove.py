@@ -4,11 +4,13 @@
 usage: tools/prove.py PROGRAM..
        tools/prove.py --passed SECONDS     the gate, which began at this time, has just proved all and built the programs
 
-The launchers at the top call it where a program isn't built from the present sources. It takes a copy of the sources,
-proves each crate that the programs stand on by `rt lib`, the crates with the longest chain of others behind them first,
-and gives what was proved back to the crates' own folders out/, where `rt check` and a later call find it. So a run that
-was interrupted goes on where it was, and after an edit only what the edit reaches is proved again. Runs at the same time
-wait for one another. Standard error gets a line for each crate; all else goes to a log, named where something fails.
+The launchers at the top call it where a program isn't built from the present sources. It takes a copy of the sources and
+has the toolchain's prover check each crate that the programs stand on, the crates with the longest chain of others behind
+them first. As in the merge gate, a crate is checked over the statements of the libraries below, whose proofs were checked
+before, and not over their proofs. Each proved library is kept, with a sum of all that it was made from, so a run that was
+interrupted goes on with the crates that are left, and after an edit only the crates that it reaches are proved again. Runs
+at the same time wait for one another. Standard error gets a line for each crate; all else goes to a log, named where
+something fails.
 Status 0: each program stands in crates/PROGRAM/out/PROGRAM, beside a file PROGRAM.sources that says from what. Else 125.
 """
 import contextlib
@@ -32,8 +34,14 @@ MOST_JOBS = 4
 # a crate with fewer lines of code takes longer by several jobs, of which each reads the libraries below
 LINES_FOR_JOBS = 300
 # about how many milliseconds a crate takes: to read what is below, to link a program, and for each byte of its parts
-TO_READ, TO_LINK, TO_PROVE = 12_000, 60_000, {"src": 4.5, "specs": 0.2, "proofs": 0.1}
+TO_READ, TO_LINK, TO_PROVE = 10_000, 75_000, {"src": 2.9, "specs": 0.07, "proofs": 0.07}
+# a crate is long where the chain of crates from it on takes this share of the time that all that is left would take
+LONG = 1.2
+# how much a crate that isn't long gives way to those that are
+NICE = 10
+TARGET = "x86_64-unknown-linux-gnu"
 PR_SET_PDEATHSIG = 1
+LIBC = ctypes.CDLL(None)
 
 
 class Failed(Exception):
@@ -44,14 +52,29 @@ def say(text):
     print(f"tensors: {text}", file=sys.stderr, flush=True)
 
 
+def kit():
+    """The folder of the toolchain and the line that names its version."""
+
+    def told(word):
+        return subprocess.run(["rt", word], capture_output=True, text=True, check=True).stdout.strip()
+
+    try:
+        return pathlib.Path(told("doc")).parent, told("version")
+    except (OSError, subprocess.SubprocessError) as why:
+        raise Failed(f"the Rattle toolchain's command rt isn't on the PATH, or fails: {why}") from why
+
+
 def listed():
-    """The crates of crates.txt, each with its line and the crates of the repository that it names."""
+    """The crates of crates.txt, each with its line, the crates of the repository that it names, and those of the toolchain."""
     lines = {}
     for line in (TOP / "crates.txt").read_text().splitlines():
         before, colon, after = line.partition("#")[0].partition(":")
         if colon:
             lines[before.split()[0]] = (line, after.split())
-    return {name: (line, [it for it in below if it in lines]) for name, (line, below) in lines.items()}
+    return {
+        name: (line, [it for it in below if it in lines], [it for it in below if it not in lines])
+        for name, (line, below) in lines.items()
+    }
 
 
 def closure(names, crates):
@@ -107,18 +130,6 @@ def room():
     return pathlib.Path(cache) / f"tensors-proving-{hashlib.sha256(bytes(TOP)).hexdigest()[:12]}"
 
 
-def link_tree(source, to):
-    """A second name for each file of a folder; a copy on another disk."""
-
-    def link(one, other):
-        try:
-            os.link(one, other)
-        except OSError:
-            shutil.copy2(one, other)
-
-    shutil.copytree(source, to, copy_function=link)
-
-
 def processors():
     """How many jobs to run, one a processor, where memory holds them; and whether it holds one more."""
     found = len(os.sched_getaffinity(0))
@@ -132,32 +143,25 @@ def processors():
     return found, False
 
 
-@contextlib.contextmanager
-def held(folder):
-    """Keeps every rt out of a crate's folder, as one rt does another."""
-    at = os.open(folder, os.O_RDONLY)
-    try:
-        with contextlib.suppress(OSError):
-            fcntl.flock(at, fcntl.LOCK_EX)
-        yield
-    finally:
-        os.close(at)
-
-
-def end_with_this():
-    """Has the kernel end a child when this program is killed."""
-    with contextlib.suppress(OSError, AttributeError):
-        ctypes.CDLL(None).prctl(PR_SET_PDEATHSIG, signal.SIGTERM)
+def begin_child(gives_way):
+    """What a child does before the prover: it is a group of its own, ends when this program is killed, and may give way."""
+    # not a session of its own: the kernel shares processors out among sessions first, and only then by who gives way
+    os.setpgrp()
+    with contextlib.suppress(AttributeError):
+        LIBC.prctl(PR_SET_PDEATHSIG, signal.SIGTERM)
+    if gives_way:
+        os.nice(NICE)
 
 
 class Builder:
-    """One run: the crates to prove, the copies in which they are proved, and the log."""
+    """One run: the crates to prove, the copy from which they are proved, the libraries that are kept, and the log."""
 
-    def __init__(self, programs, crates):
+    def __init__(self, programs, crates, toolchain):
         self.room, self.crates, self.programs = room(), crates, programs
+        self.kit, self.version = toolchain
         self.order = closure(programs, crates)
-        self.log = self.room / "log"
-        self.begin, self.done, self.running, self.free = time.monotonic(), 0, {}, []
+        self.sources, self.proved, self.log = self.room / "sources", self.room / "proved", self.room / "log"
+        self.begin, self.done, self.running, self.stopped = time.monotonic(), 0, {}, False
         self.weight = {it: time_of(it) for it in self.order}
         # a crate and the longest chain of crates above it
         self.chain = dict(self.weight)
@@ -166,90 +170,97 @@ class Builder:
                 self.chain[below] = max(self.chain[below], self.weight[below] + self.chain[name])
 
     def prepare(self):
-        """Takes a copy of the sources, after what a killed run left was given back."""
-        for kept in self.room.glob("lane*/crates/*/out/incremental"):
-            self.give_back(kept.parent.parent)
-        for old in [*self.room.glob("lane*"), self.room / "sources", self.room / "proved"]:
-            shutil.rmtree(old, ignore_errors=True)
-        sources = self.room / "sources"
-        (sources / "crates").mkdir(parents=True)
-        (self.room / "proved").mkdir()
-        text = "".join(f"{self.crates[name][0]}\n" for name in self.order)
-        (sources / "crates.txt").write_text(text)
-        if (TOP / "HANDLES").is_file():
-            shutil.copy2(TOP / "HANDLES", sources)
+        """Takes a copy of the sources, and lets go of what is kept of crates that are no more."""
+        shutil.rmtree(self.sources, ignore_errors=True)
+        self.proved.mkdir(exist_ok=True)
+        for old in self.proved.glob("*.build"):
+            if old.stem not in self.crates:
+                old.unlink()
+                shutil.rmtree(old.with_suffix(".rlib"), ignore_errors=True)
         for name in self.order:
             for part in PARTS:
                 if (TOP / "crates" / name / part).is_dir():
-                    shutil.copytree(TOP / "crates" / name / part, sources / "crates" / name / part)
+                    shutil.copytree(TOP / "crates" / name / part, self.sources / "crates" / name / part)
         self.log.write_text("")
 
-    def lane(self):
-        """A copy of the sources in which nothing else works."""
-        if self.free:
-            return self.free.pop()
-        number = 1 + len([*self.room.glob("lane*")])
-        link_tree(self.room / "sources", self.room / f"lane{number}")
-        return self.room / f"lane{number}"
+    def build_of(self, name):
+        """The file that names the build of the library that is kept, and what that was made from."""
+        return self.proved / f"{name}.build"
 
-    def give_back(self, folder):
-        """Moves what a crate's check kept, and its proved library, to the crate's own folder."""
-        own = TOP / "crates" / folder.name
-        if not own.is_dir():
-            return
-        with held(own):
-            (own / "out").mkdir(exist_ok=True)
-            if (folder / "out" / "incremental").is_dir() and not (own / "out" / "incremental").exists():
-                shutil.move(folder / "out" / "incremental", own / "out" / "incremental")
-            proved = self.room / "proved" / folder.name
-            if proved.is_dir():
-                shutil.rmtree(own / "out" / "rlib", ignore_errors=True)
-                link_tree(proved, own / "out" / "rlib")
-
-    def bring(self, name, lane):
-        """Puts the libraries below a crate into the lane, and what earlier checks of the crate kept."""
+    def key(self, name):
+        """A sum of all that a crate is made from. Statements serve only over the very builds over which they were made, so
+        these count, and not what they were made from."""
+        total = hashlib.sha256(f"{self.version}\n{sum_of([name], self.crates, self.sources)}\n".encode())
         for below in closure([name], self.crates)[:-1]:
-            to = lane / "crates" / below / "out" / "rlib"
-            if not to.is_dir():
-                to.parent.mkdir(exist_ok=True)
-                link_tree(self.room / "proved" / below, to)
-        own, mine = TOP / "crates" / name, lane / "crates" / name
-        (mine / "out").mkdir(exist_ok=True)
-        with held(own):
-            if (own / "out" / "rlib" / "stamp").is_file() and not (mine / "out" / "rlib").exists():
-                link_tree(own / "out" / "rlib", mine / "out" / "rlib")
-            if (own / "out" / "incremental").is_dir():
-                shutil.rmtree(mine / "out" / "incremental", ignore_errors=True)
-                shutil.move(own / "out" / "incremental", mine / "out" / "incremental")
+            total.update(f"{below} {self.build_of(below).read_text()}\n".encode())
+        return total.hexdigest()
 
-    def prove(self, name, lane, jobs):
-        """Proves one crate in a lane; a program is linked too."""
-        begin = time.monotonic()
-        self.bring(name, lane)
-        folder, verb = lane / "crates" / name, "run" if name in self.programs else "lib"
+    def is_kept(self, name):
+        """Whether the library is kept, from the present sources and over the present builds of those below."""
+        build = self.build_of(name)
+        return name not in self.programs and build.is_file() and build.read_text().split()[:1] == [self.key(name)]
+
+    def words(self, name, jobs):
+        """The call of the prover for a crate."""
+        _, below, of_kit = self.crates[name]
+        is_program = name in self.programs
+        words = [self.kit / "bin" / "rattle", "build", "--crate-name", name, "--jobs", jobs]
+        words += ["-o", self.proved / f"{name}.{'o' if is_program else 'rlib'}"]
+        for folder, names in ((self.kit / "rlibs", ["std", *of_kit]), (self.proved, below)):
+            words += [word for it in names for word in ("--extern", f"{it}={folder / it}.rlib")]
+            words += ["-L", f"dependency={folder}"]
+        words += ["--links", f"{name}=", "--antt-project", self.kit / "rattle" / "logic" / "antt-project.json"]
+        words += ["--logic-built", self.kit / "logic_built"]
+        if is_program:
+            words += ["--backend", "llvm", "--toolchain", self.kit / "toolchain", "src/main.rt"]
+        else:
+            words += ["--statements", "src/lib.rt"]
+        return [str(it) for it in words]
+
+    def call(self, name, words, gives_way, out):
+        """Runs a command of the toolchain in the copy of a crate; its status, less than 0 where a signal ended it."""
+        how = {"cwd": self.sources / "crates" / name, "stdin": subprocess.DEVNULL, "stdout": out, "stderr": subprocess.STDOUT}
+        self.running[name] = ran = subprocess.Popen(words, preexec_fn=lambda: begin_child(gives_way), **how)
+        try:
+            if self.stopped:
+                self.stop()
+            return ran.wait()
+        finally:
+            del self.running[name]
+
+    def prove(self, name, jobs, gives_way):
+        """Proves one crate; a library is kept, a program is linked and takes its place."""
+        begin, key = time.monotonic(), self.key(name)
+        self.build_of(name).unlink(missing_ok=True)
         with open(self.room / f"{name}.log", "w+", errors="replace") as out:
-            how = {"cwd": folder, "stdin": subprocess.DEVNULL, "stdout": out, "stderr": subprocess.STDOUT}
-            how.update(start_new_session=True, preexec_fn=end_with_this)
-            self.running[name] = ran = subprocess.Popen(["rt", verb, "--jobs", str(jobs)], **how)
-            status = ran.wait()
+            status = self.call(name, self.words(name, jobs), gives_way, out)
+            if status == -signal.SIGKILL and jobs > 1:
+                out.write("killed, most likely for want of memory: once more with one job\n")
+                out.flush()
+                status = self.call(name, self.words(name, 1), gives_way, out)
+            if status == 0 and name in self.programs:
+                status = self.link(name, out)
             out.seek(0)
             text = f"== {name}: {time.monotonic() - begin:.1f} s, {jobs} jobs\n{out.read()}"
         (self.room / f"{name}.log").unlink()
-        del self.running[name]
         with open(self.log, "a") as log:
             log.write(text)
-        if verb == "run":
-            # the program ran on no input: its status is its own, and rt's stamp says that it is proved
-            made = [folder / "out" / name, folder / "out" / f"{name}.stamp"]
-            status = 0 if all(it.is_file() for it in made) else status or 1
-        elif status == 0:
-            shutil.move(folder / "out" / "rlib", self.room / "proved" / name)
-        self.give_back(folder)
-        if verb == "run" and status == 0:
-            to = TOP / "crates" / name / "out"
-            for file in made:
-                shutil.copy2(file, to / f"{file.name}.new")
-                os.replace(to / f"{file.name}.new", to / file.name)
+        if status == 0 and name not in self.programs:
+            self.build_of(name).write_text(f"{key} {time.time_ns()}\n")
+        return status
+
+    def link(self, name, out):
+        """Links a proved program, which takes the place of the one that stands, and records what it was proved from."""
+        to, made = TOP / "crates" / name / "out", self.proved / f"{name}.o"
+        to.mkdir(exist_ok=True)
+        words = [self.kit / "bin" / "rattle-link", "--target", TARGET, "--toolchain", self.kit / "toolchain"]
+        words += ["-o", to / f"{name}.new", made, self.kit / "c" / "libos_c.a", self.kit / "c" / "liblibc_c.a"]
+        status = self.call(name, [str(it) for it in words], False, out)
+        made.unlink()
+        if status == 0:
+            os.replace(to / f"{name}.new", to / name)
+            # what was proved is the copy, so its sum is the one to write down
+            record(name, self.crates, self.sources)
         return status
 
     def tell(self, name):
@@ -259,30 +270,40 @@ class Builder:
 
     def start(self, pool, left, given, tasks, lanes, more):
         """Starts the crates that can be proved now, those with the longest chain first. Processors that no crate waits for go
-        to those that start; a crate whose chain is long beside all that is left gets two jobs though others wait, of which one
-        may be more than there are processors."""
+        to those that start. A crate whose chain is long beside all that is left gets two jobs though others wait, of which one
+        may be more than there are processors; the others give way to it."""
         ready = [it for it in left if all(below in given for below in self.crates[it][1])]
         ready.sort(key=lambda it: -self.chain[it])
-        idle = lanes - sum(jobs for _, _, jobs in tasks.values())
+        idle = lanes - sum(jobs for _, jobs in tasks.values())
         work = sum(self.weight[it] for it in self.order if it not in given)
         for at, name in enumerate(ready):
-            room = idle + (more and self.chain[name] * lanes > 2 * work)
+            is_long = self.chain[name] * lanes > LONG * work
+            room = idle + (more and is_long)
             if room <= 0:
                 return
             jobs = max(1, idle // (len(ready) - at))
-            if self.chain[name] * lanes > 2 * work:
+            if is_long:
                 jobs = max(jobs, min(2, room))
             jobs = min(jobs, most_jobs(name))
-            lane = self.lane()
             left.remove(name)
             idle -= jobs
-            tasks[pool.submit(self.prove, name, lane, jobs)] = name, lane, jobs
+            tasks[pool.submit(self.prove, name, jobs, not is_long)] = name, jobs
 
     def build(self):
         self.prepare()
         lanes, more = processors()
-        left, given, tasks, failed = list(self.order), set(), {}, []
-        with ThreadPoolExecutor(lanes) as pool:
+        left, given, tasks, failed = [], set(), {}, []
+        for name in self.order:
+            # lowest first, so the builds below are known; one below that is to be proved has none that is kept
+            if all(below in given for below in self.crates[name][1]) and self.is_kept(name):
+                given.add(name)
+                self.done += 1
+            else:
+                self.build_of(name).unlink(missing_ok=True)
+                left.append(name)
+        if given:
+            say(f"{len(given)} of {len(self.order)} are proved already")
+        with ThreadPoolExecutor(lanes + 1) as pool:
             try:
                 while left or tasks:
                     if not failed:
@@ -290,8 +311,7 @@ class Builder:
                     if not tasks:
                         break
                     for ended in wait(tasks, return_when=FIRST_COMPLETED).done:
-                        name, lane, _ = tasks.pop(ended)
-                        self.free.append(lane)
+                        name, _ = tasks.pop(ended)
                         if ended.result() == 0:
                             given.add(name)
                             self.tell(name)
@@ -301,18 +321,16 @@ class Builder:
             except BaseException:
                 self.stop()
                 raise
+        shutil.rmtree(self.sources, ignore_errors=True)
         if failed:
             raise Failed(f"{failed[0]} is not proved; what was said stands in {self.log}")
 
     def stop(self):
-        """Ends what runs; rt ends what it started."""
+        """Ends what runs, and what begins from here on."""
+        self.stopped = True
         for ran in list(self.running.values()):
             with contextlib.suppress(ProcessLookupError):
                 os.killpg(ran.pid, signal.SIGTERM)
-
-    def clear(self):
-        for old in [*self.room.glob("lane*"), self.room / "sources", self.room / "proved"]:
-            shutil.rmtree(old, ignore_errors=True)
 
 
 def sources_file(program):
@@ -362,27 +380,22 @@ def passed(begin):
 def make(programs):
     crates = listed()
     for name in programs:
-        if name not in crates:
+        if name not in crates or not (TOP / "crates" / name / "src" / "main.rt").is_file():
             raise Failed(f"there is no program {name} in crates.txt")
     for name in closure(programs, crates):
         if not (TOP / "crates" / name / "src").is_dir():
             raise Failed(f"crates.txt names {name}, but there is no folder crates/{name}/src")
     if all([is_built(name, crates) for name in programs]):
         return
-    if not shutil.which("rt"):
-        raise Failed("the Rattle toolchain's command rt isn't on the PATH")
+    toolchain = kit()
     while True:
         left = [name for name in programs if not is_built(name, crates)]
         if not left:
             return
-        builder = Builder(left, crates)
+        builder = Builder(left, crates, toolchain)
         say(f"proving and building {' '.join(left)} from {len(builder.order)} crates; the first time takes some minutes")
         say("(until then ./try answers the same requests, unproved; Ctrl-C stops, and the next call goes on)")
-        # what is proved is the copy, so its sum is the one to write down
         builder.build()
-        for name in left:
-            record(name, crates, builder.room / "sources")
-        builder.clear()
         crates = listed()
 
 
